@@ -186,4 +186,5 @@ def main():
     times() if sys.argv[1:] else tables()
 
 
-main()
+if __name__ == "__main__":
+    main()

@@ -14,8 +14,10 @@ import sys
 import tempfile
 import time
 
+from launched import program
+
 HERE = os.path.dirname(os.path.abspath(__file__))
-PROGRAM = os.environ.get("HYPERBALL") or os.path.join(HERE, "..", "crates", "hyperball", "out", "hyperball")
+PROGRAM = os.environ.get("HYPERBALL") or program()
 SEIZE, INTERRUPT, DETACH, ALL = 0x4206, 0x4207, 17, 0x40000000
 libc = ctypes.CDLL(None, use_errno=True)
 libc.ptrace.argtypes = [ctypes.c_long, ctypes.c_long, ctypes.c_void_p, ctypes.c_void_p]

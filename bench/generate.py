@@ -1,24 +1,29 @@
 #!/usr/bin/env python3
 """Writes an edge list of a graph of a given kind and size to standard output.
 
-Usage: generate.py power-law|web RECORDS [SEED]
+Usage: generate.py power-law|web|follows|friends RECORDS [SEED [VERTICES]]
 
 power-law: sources are drawn evenly, targets by a power of an even draw, so that few vertices have most of the edges;
            labels come in no order. About one vertex for five records.
 web:       pages in the order of a crawl, each with about ten links: most to pages near by, as on one site, some to
            pages that many link to, and a few anywhere. Labels come nearly in order, as a crawl gives them.
+follows:   each vertex in turn, with those that it follows: few follow most, and few are followed by most. Labels are
+           the numbers below VERTICES (a fourteenth of the records, if none are given), and each of them occurs.
+           It writes some millions of records a second, for large graphs.
+friends:   the same with each edge both ways, so RECORDS is even.
 """
 import random
 import sys
 
+STRIDE = 1_000_003
+
 
 def power_law(records, draw):
     vertices = max(1, records // 5)
-    stride = 1_000_003
     for _ in range(records):
         source = int(draw() * vertices)
         target = int(vertices * draw() ** 3)
-        yield source * stride % 4_294_967_291, target * stride % 4_294_967_291
+        yield source * STRIDE % 4_294_967_291, target * STRIDE % 4_294_967_291
 
 
 def web(records, draw):
@@ -40,19 +45,78 @@ def web(records, draw):
         page += 1
 
 
+def lines(edges):
+    """A line for each edge."""
+    for source, target in edges:
+        yield f"{source}\t{target}\n"
+
+
+DRAWN = 65536  # labels at once, each of which is followed some four times
+MOST = DRAWN // 2  # followed by one
+
+
+def degrees(vertices, records, draw):
+    """How many each vertex follows: at least one, on average as many as are left for each, by a power of an even draw."""
+    for behind in range(vertices - 1, 0, -1):
+        mean = records / (behind + 1)
+        many = min(1 + int((mean - 1) / 2 / (1 - draw()) ** 0.5), records - behind, MOST)
+        yield many
+        records -= many
+    yield records
+
+
+def circles(vertices, records, draw):
+    """Each vertex with the labels of those that it follows, which stand next to one another among those drawn."""
+    left = 0
+    for vertex, many in enumerate(degrees(vertices, records, draw)):
+        if left < many:
+            drawn = [str(int(vertices * draw() ** 2) * STRIDE % vertices) for _ in range(DRAWN)]
+            left = 4 * DRAWN
+        first = int(draw() * (DRAWN - many))
+        yield vertex, drawn[first : first + many]
+        left -= many
+
+
+def follows(vertices, records, draw):
+    """The lines of a vertex."""
+    for vertex, followed in circles(vertices, records, draw):
+        yield f"{vertex}\t" + f"\n{vertex}\t".join(followed) + "\n"
+
+
+def friends(vertices, records, draw):
+    """The lines of a vertex, and the same lines the other way round."""
+    for vertex, known in circles(vertices, records // 2, draw):
+        there, back = f"\n{vertex}\t", f"\t{vertex}\n"
+        yield there[1:] + there.join(known) + "\n" + back.join(known) + back
+
+
+def texts(kind, records, draw, vertices):
+    """The edge list in pieces."""
+    if kind in SMALL:
+        return lines(SMALL[kind](records, draw))
+    edges, odd = divmod(records, 2) if kind == "friends" else (records, 0)
+    if odd or not 1 <= vertices <= edges <= 4096 * vertices:
+        sys.exit("generate.py: a vertex follows 1 to 4,096 on average, and friends have an even number of records")
+    return LARGE[kind](vertices, records, draw)
+
+
+SMALL = {"power-law": power_law, "web": web}
+LARGE = {"follows": follows, "friends": friends}
+
+
 def main():
-    if len(sys.argv) not in (3, 4) or sys.argv[1] not in ("power-law", "web"):
+    if len(sys.argv) not in (3, 4, 5) or sys.argv[1] not in [*SMALL, *LARGE]:
         sys.exit(__doc__)
     records = int(sys.argv[2])
-    draw = random.Random(int(sys.argv[3]) if len(sys.argv) == 4 else 1).random
-    edges = power_law(records, draw) if sys.argv[1] == "power-law" else web(records, draw)
-    lines = []
-    for source, target in edges:
-        lines.append(f"{source}\t{target}\n")
-        if len(lines) == 65536:
-            sys.stdout.write("".join(lines))
-            lines.clear()
-    sys.stdout.write("".join(lines))
+    draw = random.Random(int(sys.argv[3]) if len(sys.argv) > 3 else 1).random
+    vertices = int(sys.argv[4]) if len(sys.argv) > 4 else records // 14
+    pieces = []
+    for text in texts(sys.argv[1], records, draw, vertices):
+        pieces.append(text)
+        if len(pieces) == 8192:
+            sys.stdout.write("".join(pieces))
+            pieces.clear()
+    sys.stdout.write("".join(pieces))
 
 
 main()

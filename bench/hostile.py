@@ -3,6 +3,7 @@
 
 Usage: bench/hostile.py [INPUTS [SECONDS [SEED]]]   (1000 inputs of each kind, for at most 600 seconds each, seed 0)
        bench/hostile.py refused   (refused memory, failing streams and lost workers alone, as the gate has it)
+       bench/hostile.py program   (the same without the tests of refused calls, which only the gate builds)
 
 Inputs are random bytes, right ones with a few bytes changed, and scripts of random commands; a kind's inputs depend on
 its name and the seed alone. Each run is a process of its own. It has to end by itself, with status 0 and nothing told,
@@ -22,8 +23,10 @@ import tempfile
 import time
 from concurrent.futures import ThreadPoolExecutor
 
+from launched import program
+
 HERE = os.path.dirname(os.path.abspath(__file__))
-PROGRAM = os.environ.get("HYPERBALL") or os.path.join(HERE, "..", "crates", "hyperball", "out", "hyperball")
+PROGRAM = os.environ.get("HYPERBALL") or program()
 RUN = ["run", "--log2m", "4"]
 EDGES = b"a\tb\nb\tc\n"
 REPORT = open(os.path.join(HERE, "..", "examples", "two-edges.csv"), "rb").read()
@@ -452,13 +455,14 @@ def main():
     words = sys.argv[1:]
     with tempfile.TemporaryDirectory() as folder:
         shim = built(folder, "refuse")
-        if words != ["refused"]:
+        if words not in (["refused"], ["program"]):
             many, seconds, seed = words + ["1000", "600", "0"][len(words):]
             all_inputs(int(many), float(seconds), int(seed), built(folder, "feed"))
             limits()
         lost_workers()
         if shim:
-            refused_calls(shim)
+            if words != ["program"]:
+                refused_calls(shim)
             refusals(shim)
         else:
             print("no cc: refused memory and failing streams are not tried")

@@ -16,11 +16,8 @@ import sys
 import tempfile
 import time
 
-from launched import environment
+from launched import environment, program
 
-HERE = os.path.dirname(os.path.abspath(__file__))
-PROGRAM = os.path.join(HERE, "..", "hyperball")
-BINARY = os.path.join(HERE, "..", "crates", "hyperball", "out", "hyperball")
 ENVIRONMENT = environment()
 VERTICES, EDGES, PARTS, REPLICAS = 1000, 5000, 4, 2
 WORDS = ["replay", "--log2m", "8", "--parts", str(PARTS), "--replicas", str(REPLICAS)]
@@ -67,7 +64,7 @@ def timed(text):
         given.write(text.encode())
         given.seek(0)
         started = time.monotonic()
-        child = subprocess.Popen([BINARY, *WORDS], stdin=given, stdout=answers, env=ENVIRONMENT)
+        child = subprocess.Popen([program(), *WORDS], stdin=given, stdout=answers, env=ENVIRONMENT)
         _, status, usage = os.wait4(child.pid, 0)
         seconds = time.monotonic() - started
         child.returncode = 0
@@ -84,7 +81,7 @@ def message_bytes(answers):
 
 
 def main():
-    subprocess.run([PROGRAM, "--help"], stdout=subprocess.DEVNULL, check=True)
+    program()
     draw = random.Random(1)
     graph = edges(draw)
     start, _, _ = min(timed(f"{graph}%%\nshow 9.9\n") for _ in range(3))

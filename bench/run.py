@@ -18,33 +18,32 @@ import sys
 import tempfile
 import time
 
-from launched import environment
+from launched import environment, program
 
 HERE = os.path.dirname(os.path.abspath(__file__))
-PROGRAM = os.path.join(HERE, "..", "hyperball")
-BINARY = os.path.join(HERE, "..", "crates", "hyperball", "out", "hyperball")
-ENVIRONMENT = environment()
 
 
-def timed(words, path):
-    """Seconds and peak memory (MiB) of one run, whose report is thrown away."""
+def timed(parts, log2m, path):
+    """Seconds and peak memory (MiB) of one run without snapshots, whose report is thrown away."""
+    words = ["run", "--keep", "0", "--parts", str(parts), "--log2m", str(log2m)]
+    usual = environment(one_heap=parts == 1)
     with open(path, "rb") as edges:
         started = time.monotonic()
-        child = subprocess.Popen([BINARY, "run", "--keep", "0", *words], stdin=edges, stdout=subprocess.DEVNULL, stderr=subprocess.DEVNULL, env=ENVIRONMENT)
+        child = subprocess.Popen([program(), *words], stdin=edges, stdout=subprocess.DEVNULL, stderr=subprocess.DEVNULL, env=usual)
         _, _, usage = os.wait4(child.pid, 0)
         child.returncode = 0
         return time.monotonic() - started, usage.ru_maxrss / 1024
 
 
-def best(words, path):
-    return min(timed(words, path) for _ in range(3))
+def best(parts, log2m, path):
+    return min(timed(parts, log2m, path) for _ in range(3))
 
 
 def supersteps(path):
     """Vertices and the last superstep, read line by line: a large parent would count in the children's peak memory."""
     vertices, end = 0, ""
     with tempfile.TemporaryFile() as report:
-        subprocess.run([BINARY, "run", "--log2m", "4"], stdin=open(path, "rb"), stdout=report, check=True)
+        subprocess.run([program(), "run", "--log2m", "4"], stdin=open(path, "rb"), stdout=report, check=True)
         report.seek(0)
         for line in report:
             vertices += line.startswith(b"vertex,")
@@ -66,16 +65,16 @@ def asked():
 
 def main():
     parts, sizes = asked()
-    subprocess.run([PROGRAM, "--help"], stdout=subprocess.DEVNULL, check=True)
+    program()
     print("kind       records    vertices  end  read/s     parts  log2m  total s  peak MiB  MiB beside rows")
     for kind in ("power-law", "web"):
         for records in sizes:
             with tempfile.NamedTemporaryFile() as edges:
                 subprocess.run([sys.executable, os.path.join(HERE, "generate.py"), kind, str(records)], stdout=edges, check=True)
                 vertices, end = supersteps(edges.name)
-                reading, _ = best(["--log2m", "3"], edges.name)
+                reading, _ = best(1, 3, edges.name)
                 for log2m in (4, 8):
-                    total, peak = best(["--parts", str(parts), "--log2m", str(log2m)], edges.name)
+                    total, peak = best(parts, log2m, edges.name)
                     beside = peak - 2 * vertices * 2**log2m / 2**20
                     print(f"{kind:<10} {records:<10} {vertices:<9} {end:<4} {records / reading:<10.0f} {parts:<6} {log2m:<6} {total:<8.2f} {peak:<9.0f} {beside:.0f}", flush=True)
 

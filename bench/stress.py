@@ -16,8 +16,10 @@ import sys
 import time
 from concurrent.futures import ThreadPoolExecutor
 
+from launched import program
+
 HERE = os.path.dirname(os.path.abspath(__file__))
-PROGRAM = os.environ.get("HYPERBALL") or os.path.join(HERE, "..", "crates", "hyperball", "out", "hyperball")
+PROGRAM = os.environ.get("HYPERBALL") or program()
 
 
 def ran(words, edges):

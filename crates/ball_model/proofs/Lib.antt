@@ -22,6 +22,7 @@ pub mod HeldLemmas
 pub mod WorldLemmas
 pub mod StoryLemmas
 pub mod CountedLemmas
+pub mod LimitLemmas
 pub mod LineLemmas
 pub mod SectionLemmas
 pub mod Crossing

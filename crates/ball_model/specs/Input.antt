@@ -1,9 +1,9 @@
 -- What an edge list says: the graph and the labels that its records name, or its first refusal.
-use Rattle.std.specs.Prelude.{◌≡◌, ⊤, ℕ, ◌+◌, Bool, true, false, List, [], ◌∷◌, ◌==◌, ◌&&◌, ◌^◌, not, if◌then◌else◌, map, length, take, min, nat_lt, nat_le, Option, None, Some, Result, Ok, Err, slice_index_or}
+use Rattle.std.specs.Prelude.{◌≡◌, ⊤, ℕ, ◌+◌, ◌-◌, Bool, true, false, List, [], ◌∷◌, ◌==◌, ◌&&◌, ◌^◌, not, if◌then◌else◌, map, length, take, min, nat_lt, nat_le, Option, None, Some, Result, Ok, Err, slice_index_or}
 use Rattle.std.specs.List.{list_any, range_with_len, filter, flat_map}
 use Rattle.std.specs.Str.{bytes_eq}
 use Rattle.ball_model.specs.Graph.{Graph}
-use Rattle.ball_model.specs.PlanValue.{most_vertices}
+use Rattle.ball_model.specs.PlanValue.{most_vertices, usual_vertices}
 
 -- a byte order mark at the front: the bytes ef bb bf
 abbrev pub has_mark : List ℕ → Bool
@@ -113,14 +113,30 @@ pub record Limits : Type 0 where
 
 -- no more records than that are read, whatever the limits
 abbrev pub most_records : ℕ
-most_records = 2 ^ 26
+most_records = 2 ^ 32 - 1
 
--- the limits in force are never above those of all runs
+-- no more records than that are read by the usual calls
+abbrev pub usual_records : ℕ
+usual_records = 2 ^ 26
+
+-- the lower of some limits, one by one
+abbrev pub lower_of : Limits → Limits → Limits
+lower_of a b = record { vertices = min a.vertices b.vertices; edges = min a.edges b.edges }
+
+-- the limits of the usual calls, and those of the calls that read large inputs
+abbrev pub usual_limits : Limits
+usual_limits = record { vertices = usual_vertices; edges = usual_records }
+
+abbrev pub most_limits : Limits
+most_limits = record { vertices = most_vertices; edges = most_records }
+
+-- the limits in force are never above the usual ones
 abbrev pub in_force : Limits → Limits
-in_force limits = record {
-  vertices = min limits.vertices most_vertices;
-  edges = min limits.edges most_records;
-}
+in_force limits = lower_of limits usual_limits
+
+-- where a large input is read, they are never above those of all inputs
+abbrev pub in_force_large : Limits → Limits
+in_force_large limits = lower_of limits most_limits
 
 -- why an edge list is refused; records are numbered from 1
 pub data Refusal : Type 0 where
@@ -156,3 +172,7 @@ network_from limits records =
 -- what a plain text says, with this byte between fields, under the limits in force
 abbrev pub input_of : ℕ → Limits → List ℕ → Result Network Refusal
 input_of d limits text = network_from (in_force limits) (records d text)
+
+-- what it says where a large input is read
+abbrev pub large_input_of : ℕ → Limits → List ℕ → Result Network Refusal
+large_input_of d limits text = network_from (in_force_large limits) (records d text)

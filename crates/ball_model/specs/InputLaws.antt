@@ -1,9 +1,9 @@
 -- What an input says, in the subject's own words: its lines, its sections, and which vertices are counted. Each is a
 -- clause of a function of src/laws.rt.
-use Rattle.std.specs.Prelude.{◌≡◌, ◌≢◌, ◌<◌, ◌≤◌, ◌↔◌, ◌⊎◌, ℕ, List, [], ◌∷◌, ◌++◌, IsTrue, Some, length, slice_index_or}
+use Rattle.std.specs.Prelude.{◌≡◌, ◌≢◌, ◌<◌, ◌≤◌, ◌↔◌, ◌⊎◌, ℕ, List, [], ◌∷◌, ◌++◌, IsTrue, Some, Ok, length, slice_index_or}
 use Rattle.std.specs.List.{All, range_with_len}
 use Rattle.ball_model.specs.Graph.{Graph, IsGraph, is_counted, counts_all}
-use Rattle.ball_model.specs.Input.{Network, lines}
+use Rattle.ball_model.specs.Input.{Limits, Network, lines, network_from}
 use Rattle.ball_model.specs.Counting.{named_vertices, counted_network}
 use Rattle.ball_model.specs.Sections.{sections_of}
 
@@ -29,6 +29,12 @@ abbrev pub AllNamedAreAll : Type 0
 AllNamedAreAll = (labels : List (List ℕ)) (records : List (List (List ℕ))) →
     ((v : ℕ) → v < length labels → IsNamed records (slice_index_or labels v [])) →
     named_vertices labels records ≡ range_with_len 0 (length labels)
+
+-- what is read under some limits is read the same under limits that are no lower
+abbrev pub LimitsOnlyRefuse : Type 0
+LimitsOnlyRefuse = (a b : Limits) (records : List (List (List ℕ))) (network : Network) →
+    a.vertices ≤ b.vertices → a.edges ≤ b.edges →
+    network_from a records ≡ Ok network → network_from b records ≡ Ok network
 
 -- bytes that end no line: neither LF nor CR
 abbrev pub IsBare : List ℕ → Type 0

@@ -26,13 +26,13 @@ use Rattle.ball_model.specs.declared.world.WorldError.TheVariants as refusal
 use Rattle.ball_model.specs.Counter.{ball_counter}
 use Rattle.ball_model.specs.Figures.{TallyValue, fixed6_of}
 use Rattle.ball_model.specs.Supersteps.{tally_at}
-use Rattle.ball_model.specs.PlanValue.{mixing_of, plan_of}
+use Rattle.ball_model.specs.PlanValue.{mixing_of}
 use Rattle.ball_model.specs.Job.{Job, job_of}
 use Rattle.ball_model.specs.Content.{verdict_of}
 use Rattle.ball_model.specs.Join.{Holding, content_in}
 use Rattle.ball_model.specs.State.{own_vertices}
 use Rattle.ball_model.specs.Input.{Network, fields, is_record}
-use Rattle.ball_model.specs.RunText.{Numbers, Settings, plan_over, AreRead, IsPlanFault}
+use Rattle.ball_model.specs.RunText.{Numbers, Settings, plan_asked, plan_over, AreRead, IsPlanFault}
 use Rattle.ball_model.specs.World.{World, Node, start_world, node_at, node_of, answer_of, after_event}
 
 -- ---- scripts
@@ -263,7 +263,7 @@ job_over n network = job_of network.graph (plan_over n network.graph)
 -- there is such a job over the network, and the text is what the events answer from the start of its world
 pub record IsReplayTextOf (n : Numbers) (replicas : ℕ) (network : Network) (events : List Event)
     (text : List ℕ) : Type 0 where
-  pub planned : plan_of (plan_over n network.graph) ≡ Ok (plan_over n network.graph)
+  pub planned : plan_asked n network.graph ≡ Ok (plan_over n network.graph)
   pub text_is : text
       ≡ events_text (job_over n network) (start_world (plan_over n network.graph) replicas) events
 

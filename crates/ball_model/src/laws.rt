@@ -9,10 +9,10 @@ ghost use Rattle.ball_model.specs.Laws.{EndIsWithin, EndIsLeast, EndIsReached, E
 ghost use Rattle.ball_model.specs.Laws.{EstimateFits, NoneIsNothing, OneIsOne, DrawsAdd};
 ghost use Rattle.ball_model.specs.Laws.{LargeIsRaw, SmallIsSmall, CountersAreApart, TalliesFit};
 ghost use Rattle.ball_model.specs.Laws.{PartIsStrided, JoinCommutes, JoinAssociates, JoinRepeats};
-ghost use Rattle.ball_model.specs.Laws.{JoinIsUnion};
+ghost use Rattle.ball_model.specs.Laws.{JoinIsUnion, UsualIsLarge};
 ghost use Rattle.ball_model.specs.InputLaws.{AllAreCounted, NamedAreCounted, AllNamedAreAll};
 ghost use Rattle.ball_model.specs.InputLaws.{LfEndsLine, CrLfEndsLine, EndEndsLine, MarkDivides};
-ghost use Rattle.ball_model.specs.InputLaws.{FirstMarkDivides};
+ghost use Rattle.ball_model.specs.InputLaws.{FirstMarkDivides, LimitsOnlyRefuse};
 ghost use Rattle.ball_model.specs.AccumulatedLaws.{AccumulatorStarts, AccumulatorEnds};
 ghost use Rattle.ball_model.specs.AccumulatedLaws.{AccumulatorsJoin, AccumulatorSteps};
 
@@ -109,6 +109,11 @@ pub fn tallies_fit()
     ensures { TalliesFit }
 {}
 
+/// Over at most 2^24 vertices a large plan is the usual one, or is refused for the same fault.
+pub fn usual_is_large()
+    ensures { UsualIsLarge }
+{}
+
 /// Vertex i of partition p is i * parts + p.
 pub fn part_is_strided()
     ensures { PartIsStrided }
@@ -131,6 +136,11 @@ pub fn all_are_counted()
 pub fn named_are_counted()
     ensures named { NamedAreCounted }
     ensures all { AllNamedAreAll }
+{}
+
+/// What is read under some limits is read the same under limits that are no lower.
+pub fn limits_only_refuse()
+    ensures { LimitsOnlyRefuse }
 {}
 
 /// A line ends at an LF, at a CR and an LF, or at the end of the text.

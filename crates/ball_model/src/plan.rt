@@ -1,6 +1,6 @@
 //! The plan of a job.
 
-ghost use Rattle.std.specs.Prelude.{◌≡◌, true, false, ◌<◌, ◌%◌, ◌^◌};
+ghost use Rattle.std.specs.Prelude.{◌≡◌, true, false, ◌<◌, ◌≤◌, ◌%◌, ◌^◌};
 
 use std::marker::Model;
 use thiserror::Error;
@@ -27,7 +27,10 @@ pub const MOST_REPLICAS: u8 = 4;
 pub const GREATEST_LIMIT: u32 = 4096;
 
 /// The most vertices of a graph.
-pub const MOST_VERTICES: u32 = 1 << 24;
+pub const MOST_VERTICES: u32 = 1 << 31;
+
+/// The most vertices of a graph that has a usual plan.
+pub const USUAL_VERTICES: u32 = 1 << 24;
 
 /// Why there is no such plan, in the order of the checks.
 #[derive(Clone, Copy, Debug, PartialEq, Eq, Error)]
@@ -41,7 +44,7 @@ pub enum PlanError {
     /// The greatest superstep is 0, or above 4096.
     #[error("limit is not from 1 to 4096")]
     Limit,
-    /// There are more than 2^24 vertices.
+    /// There are more than 2^24 vertices, or more than 2^31 where a large plan is asked for.
     #[error("too many vertices")]
     Vertices,
 }
@@ -108,7 +111,15 @@ impl Model for Plan {
 }
 
 impl Plan {
-    ghost use Rattle.ball_model.specs.PlanValue.{PlanValue, IsPlan, plan_of, part_size};
+    ghost use Rattle.ball_model.specs.PlanValue.{
+      PlanValue,
+      IsPlan,
+      most_vertices,
+      plan_within,
+      plan_of,
+      large_plan_of,
+      part_size,
+    };
 
     /// The plan with raw estimates, or the first of its faults: 4 to 10 for log2m, 1 to 64 partitions, a limit of 1 to 4096
     /// supersteps, and at most 2^24 vertices.
@@ -130,6 +141,53 @@ impl Plan {
           job = job;
         }) }
     {
+        Plan::within(USUAL_VERTICES, log2m, seed, parts, limit, vertices, job)
+    }
+
+    /// The plan with raw estimates over a large graph, of at most 2^31 vertices, or the first of its faults, in the order of
+    /// [`Plan::new`].
+    pub fn large(
+        log2m: u8,
+        seed: u64,
+        parts: u16,
+        limit: u32,
+        vertices: u32,
+        job: [u8; 32],
+    ) -> Result<Plan, PlanError>
+        ensures { result ≡ large_plan_of (record {
+          log2m = log2m;
+          seed = seed;
+          parts = parts;
+          limit = limit;
+          vertices = vertices;
+          corrected = false;
+          job = job;
+        }) }
+    {
+        Plan::within(MOST_VERTICES, log2m, seed, parts, limit, vertices, job)
+    }
+
+    // The plan over at most that many vertices, or the first of its faults.
+    fn within(
+        most: u32,
+        log2m: u8,
+        seed: u64,
+        parts: u16,
+        limit: u32,
+        vertices: u32,
+        job: [u8; 32],
+    ) -> Result<Plan, PlanError>
+        requires { most ≤ most_vertices }
+        ensures { result ≡ plan_within most (record {
+          log2m = log2m;
+          seed = seed;
+          parts = parts;
+          limit = limit;
+          vertices = vertices;
+          corrected = false;
+          job = job;
+        }) }
+    {
         if !(LEAST_LOG2M..=GREATEST_LOG2M).contains(&log2m) {
             return Err(PlanError::Log2m);
         }
@@ -139,7 +197,7 @@ impl Plan {
         if !(1..=GREATEST_LIMIT).contains(&limit) {
             return Err(PlanError::Limit);
         }
-        if vertices > MOST_VERTICES {
+        if vertices > most {
             return Err(PlanError::Vertices);
         }
         Ok(Plan {

@@ -90,6 +90,31 @@ fn plan_checks(rt: HostRuntime) {
     assert_eq!(rt; first_of_another_refusal(), None);
 }
 
+// Numbers of a large plan, whose graph may have 2^31 vertices, and what they are refused for.
+static LARGE_CHECKED: [(u8, u16, u32, u32, Option<PlanError>); 6] = [
+    (3, 0, 1, 2_147_483_649, Some(PlanError::Log2m)),
+    (4, 65, 0, 2_147_483_649, Some(PlanError::Parts)),
+    (4, 1, 4097, 2_147_483_649, Some(PlanError::Limit)),
+    (4, 1, 1, 2_147_483_649, Some(PlanError::Vertices)),
+    (4, 1, 1, 16_777_217, None),
+    (10, 64, 4096, 2_147_483_648, None),
+];
+
+fn first_of_another_large_refusal() -> Option<(u8, u16, u32, u32, Option<PlanError>)> {
+    for (log2m, parts, limit, vertices, refusal) in &LARGE_CHECKED {
+        let plan = Plan::large(*log2m, 7, *parts, *limit, *vertices, [9; 32]);
+        if plan.err() != *refusal {
+            return Some((*log2m, *parts, *limit, *vertices, *refusal));
+        }
+    }
+    None
+}
+
+#[test]
+fn large_plan_checks(rt: HostRuntime) {
+    assert_eq!(rt; first_of_another_large_refusal(), None);
+}
+
 // Whether a plan tells its numbers, the width and a vertex's partition; its digest, and that of one with another.
 fn tells(plan: &Plan) -> bool {
     plan.log2m() == 5
@@ -537,12 +562,14 @@ fn laws_are_called() {
     laws::end_is_least();
     laws::estimate_grows();
     laws::tallies_fit();
+    laws::usual_is_large();
     laws::part_is_strided();
     laws::join_is_a_join();
     laws::draws_are_waits();
     laws::large_is_raw();
     laws::all_are_counted();
     laws::named_are_counted();
+    laws::limits_only_refuse();
     laws::lines_end();
     laws::first_mark_divides();
     history::standing_is_posted();

@@ -4,7 +4,7 @@ use Rattle.std.specs.List.{flat_map, All}
 use Rattle.std.proofs.Math.Nat.{pow-le-pow_right}
 use Rattle.std.proofs.lemmas.Bool.{ltb-false, le-ltb, cases_lt}
 use Rattle.std.proofs.lemmas.List.{length-append, length-drop, get_or_past}
-use Rattle.ball_model.specs.PlanValue.{PlanValue, IsPlan, part_size}
+use Rattle.ball_model.specs.PlanValue.{PlanValue, IsPlan, most_vertices, part_size}
 use Rattle.ball_model.specs.Batches.{BatchValue, IsRow, IsBatch, row_bytes, header_bytes, batch_bytes}
 use Rattle.batches.specs.declared.error.BatchError.{BatchError}
 use Rattle.batches.specs.declared.error.BatchError.TheVariants as errors
@@ -88,7 +88,7 @@ checked_spelled plan bytes h fits c =
     ∙ sym (batch_bytes-head (batch_from plan h rows))
 
 -- rows of a batch fit their bytes
-rows_wide : (plan : PlanValue) (source least : ℕ) (rows : List (ℕ × List ℕ)) → plan.vertices ≤ 2 ^ 24 → AreRows plan source least rows → AreWide (2 ^ plan.log2m) rows
+rows_wide : (plan : PlanValue) (source least : ℕ) (rows : List (ℕ × List ℕ)) → plan.vertices ≤ most_vertices → AreRows plan source least rows → AreWide (2 ^ plan.log2m) rows
 unfolding AreWide AreRows
 rows_wide plan source least [] few are = tt
 rows_wide plan source least (row ∷ rows) few are = (omega (arith, are.0.vertex, few), are.0.width, rows_wide plan source (row.0 + 1) rows few are.2)
@@ -109,7 +109,7 @@ spelling_again plan b agrees is =
     let e_parts : b.plan.parts ≡ plan.parts = ap (λ (p : PlanValue). p.parts) agrees in
     let e_limit : b.plan.limit ≡ plan.limit = ap (λ (p : PlanValue). p.limit) agrees in
     let e_vertices : b.plan.vertices ≡ plan.vertices = ap (λ (p : PlanValue). p.vertices) agrees in
-    let few : plan.vertices ≤ 2 ^ 24 = omega (arith, e_vertices, is.plan.vertices_to) in
+    let few : plan.vertices ≤ most_vertices = omega (arith, e_vertices, is.plan.vertices_to) in
     let rows_ok : All (IsRow plan b.name.source) b.rows = λ k d lt. let one = is.rows k d lt in
     record { vertex = omega (arith, one.vertex, e_vertices); own = ap (λ (p : ℕ). (get_or b.rows k d).0 % p) (sym e_parts) ∙ one.own; width = one.width ∙ ap (λ (l : ℕ). 2 ^ l) e_log2m; ranks = one.ranks } in
     let are : AreRows plan b.name.source 0 b.rows = rows_are plan b.name.source 0 b.rows (λ some. omega arith) rows_ok is.ascending in

@@ -1,11 +1,14 @@
 //! The turn of a call: a ticket is drawn, the book is taken once the ticket is served, and given back.
+//!
+//! A ticket is drawn only where no other caller waits with one, so that mostly two are out: who is served, and who is
+//! next. The others wait before they draw, where they hold up nobody, however late they wake.
 
 ghost use Rattle.std.specs.Prelude.{◌≡◌, ◌%◌, ◌^◌, ◌∷◌, [], None, Some};
 ghost use Rattle.ball_model.specs.History.{HistoryEvent, entries_of};
 ghost use Rattle.ball_model.specs.Caller.{Called, Extends};
 ghost use Rattle.board.specs.Noted.{IsNext, IsNoted};
 ghost use Rattle.board.specs.Rule.{GoesOn, HasNews, at_look, with_ticket, at_turn, after_turn};
-ghost use Rattle.board.specs.Turn.{GoesOnBySeat, IsAtTable, IsIdle, IsSameSeat};
+ghost use Rattle.board.specs.Turn.{GoesOnBySeat, IsAtTable, IsIdle, IsSameSeat, IsSized};
 ghost use Rattle.board.specs.Inside.{GrantFits, IsTurn, caller_of};
 
 use crate::book::Book;
@@ -14,12 +17,22 @@ use crate::rule::{
     TICKETS, WritesLength,
 };
 use crate::seat::Grant;
+use std::hint;
 use std::snapshot::Snapshot as Seen;
 use std::sync::Wait;
-use std::{hint, thread};
+use std::time::Duration;
 
-/// How often a caller looks at the ticket that is served before it yields its thread.
+/// How often a caller looks before it sleeps.
 const LOOKS: u32 = 64;
+
+/// How often a caller sleeps at most before it draws its ticket.
+const SLEEPS: u32 = 1000;
+
+/// How long it sleeps first, in microseconds.
+const SHORTEST: u64 = 50;
+
+/// How often the next sleep is twice as long.
+const DOUBLINGS: u32 = 4;
 
 /// Looks at the length.
 pub fn look_at_length(table: &BoardTable, pass: &mut Pass) -> u64
@@ -32,6 +45,47 @@ pub fn look_at_length(table: &BoardTable, pass: &mut Pass) -> u64
     ensures told { HasNews pass.old.me.0 pass.new.me.0.seen }
 {
     table.shared.load::<LooksAtLength>(pass, LENGTH)
+}
+
+// The next ticket, where one caller is served and another waits with a ticket.
+fn look_at_queue(table: &BoardTable) -> Option<u64>
+    requires table { IsSized table.now.shared.table_id }
+{
+    let serving = table.shared.peek(SERVING);
+    let next = table.shared.peek(TICKETS);
+    (next.wrapping_sub(serving) > 1).then_some(next)
+}
+
+// The half of a word by which a thread that is about to sleep tells whether the word has changed.
+fn low_half(word: u64) -> u32 {
+    (word & 0xffff_ffff) as u32
+}
+
+// Lets time pass after so many looks at the queue: a moment at first, and then a sleep, longer each time up to 800
+// microseconds. It is short where a ticket is drawn just then.
+fn pause_outside<R: Wait>(rt: &R, table: &BoardTable, looks: u32, next: u64)
+    requires table { IsSized table.now.shared.table_id }
+{
+    if looks < LOOKS {
+        hint::spin_loop();
+        return;
+    }
+    let micros = SHORTEST << (looks - LOOKS).min(DOUBLINGS);
+    table
+        .shared
+        .park_timeout(rt, TICKETS, low_half(next), Duration::from_micros(micros));
+}
+
+// Waits until no other caller waits with a ticket, though no longer than for so many sleeps.
+fn wait_outside<R: Wait>(rt: &R, table: &BoardTable)
+    requires table { IsSized table.now.shared.table_id }
+{
+    for looks in 0..LOOKS + SLEEPS {
+        let Some(next) = look_at_queue(table) else {
+            return;
+        };
+        pause_outside(rt, table, looks, next);
+    }
 }
 
 // Draws a ticket.
@@ -57,21 +111,24 @@ fn wait<R: Wait>(rt: &R, table: &BoardTable, pass: &mut Pass, ticket: u64)
 {
     let mut looks = 0;
     for _ in rt.forever() {
-        if table.shared.load::<LooksAtServing>(pass, SERVING) == ticket {
+        let serving = table.shared.load::<LooksAtServing>(pass, SERVING);
+        if serving == ticket {
             return;
         }
-        looks = pause(looks);
+        looks = pause(rt, table, looks, serving);
     }
     unreachable!()
 }
 
-// Lets a moment pass after so many looks, and counts one more.
-fn pause(looks: u32) -> u32 {
+// Lets a moment pass after so many looks, and counts one more; after the last it sleeps until another is served.
+fn pause<R: Wait>(rt: &R, table: &BoardTable, looks: u32, serving: u64) -> u32
+    requires table { IsSized table.now.shared.table_id }
+{
     if looks < LOOKS {
         hint::spin_loop();
         return looks + 1;
     }
-    thread::yield_now();
+    table.shared.park(rt, SERVING, low_half(serving));
     looks
 }
 
@@ -84,6 +141,7 @@ fn take_book<R: Wait>(rt: &R, table: &BoardTable, pass: &mut Pass) -> Book
     ensures turn { (pass.new.me.0.stage ≡ 2) × (pass.new.me.1 ≡ (0, None) ∷ []) }
     ensures book { (result ≡ pass.new.me.0.seen) × GoesOn pass.old.me.0 result }
 {
+    wait_outside(rt, table);
     let ticket = draw(table, pass);
     wait(rt, table, pass, ticket);
     let Some(book) = table.shared.exchange(pass, 0, None) else {
@@ -95,7 +153,7 @@ fn take_book<R: Wait>(rt: &R, table: &BoardTable, pass: &mut Pass) -> Book
 // Gives the book back, and lets the next caller in.
 //
 // The book is put into the slot before the length is written; no other seat can reach it there until `serving` is
-// raised, which is the last step.
+// raised, which is the last step; then who waits is woken.
 fn give_book(table: &BoardTable, pass: &mut Pass, book: Book)
     requires table { IsAtTable pass.old.table_id table.now.shared.table_id }
     requires turn { (pass.old.me.0.stage ≡ 2) × (pass.old.me.1 ≡ (0, None) ∷ []) }
@@ -106,7 +164,17 @@ fn give_book(table: &BoardTable, pass: &mut Pass, book: Book)
     let length = u64::from(book.entries());
     let _left = table.shared.exchange(pass, 0, Some(book));
     table.shared.store::<WritesLength>(pass, LENGTH, length);
-    table.shared.fetch_add::<RaisesServing>(pass, SERVING, 1);
+    let served = table.shared.fetch_add::<RaisesServing>(pass, SERVING, 1);
+    wake_next(table, served);
+}
+
+// Wakes those who sleep with a ticket, if any is out, once that ticket was served.
+fn wake_next(table: &BoardTable, served: u64)
+    requires table { IsSized table.now.shared.table_id }
+{
+    if table.shared.peek(TICKETS) != served.wrapping_add(1) {
+        table.shared.wake_all(SERVING);
+    }
 }
 
 /// A call's turn: what was granted to the seat, the book as it was found, and the book.

@@ -3,16 +3,15 @@ use Rattle.std.proofs.Common.{◌≡◌, ◌∙◌, ◌<◌, ℕ, List, [], ◌�
 use Rattle.std.specs.Prelude.{None, slice_set}
 use Rattle.std.proofs.lemmas.List.{append-nil}
 use Rattle.ball_model.specs.Graph.{Graph}
-use Rattle.ball_model.specs.Input.{IsPlain, Network, in_force, lines, network_from, records}
+use Rattle.ball_model.specs.Input.{IsPlain, Limits, Network, lines, network_from, records}
 use Rattle.edgelist.specs.Edges.{graph_of_edges}
-use Rattle.edgelist.specs.Given.{IsGiven}
+use Rattle.edgelist.specs.Given.{IsGivenUnder}
 use Rattle.edgelist.specs.Pieces.{EndsLine, IsLeftOf, IsThrough}
-use Rattle.edgelist.specs.Reading.{Refuses, byte_of, limits_of, meaning_of, network_by}
+use Rattle.edgelist.specs.Reading.{Refuses, byte_of, limits_of, meaning_under, network_by}
 use Rattle.edgelist.specs.declared.edge.Edge.{Edge}
 use Rattle.edgelist.specs.declared.pieces.EdgeReader.{EdgeReader}
 use Rattle.edgelist.specs.declared.read.Delimiter.{Delimiter}
 use Rattle.edgelist.specs.declared.read.EdgeError.{EdgeError}
-use Rattle.edgelist.specs.declared.read.EdgeLimits.{EdgeLimits}
 use Rattle.edgelist.proofs.PieceLemmas.{plain-front, plain-held, records-held, records-joined, through-network}
 
 -- no text has no records
@@ -25,9 +24,9 @@ held-more done left lines b (inl h) = inl (h.0, ap (λ (l : List ℕ). l ++ b �
 held-more done left lines b (inr h) = inr (ap (λ (l : List ℕ). l ++ b ∷ []) h)
 
 -- one byte more is held
-pub given-more : (limits : EdgeLimits) (delimiter : Delimiter) (text : List ℕ) (b : ℕ) (r s : EdgeReader) →
+pub given-more : (limits : Limits) (delimiter : Delimiter) (text : List ℕ) (b : ℕ) (r s : EdgeReader) →
     s.failed ≡ r.failed → s.delimiter ≡ r.delimiter → s.limits ≡ r.limits → s.number ≡ r.number → s.reading ≡ r.reading → s.lines.items ≡ r.lines.items ++ b ∷ [] →
-    IsGiven limits delimiter text r → IsGiven limits delimiter (text ++ b ∷ []) s
+    IsGivenUnder limits delimiter text r → IsGivenUnder limits delimiter (text ++ b ∷ []) s
 given-more limits delimiter text b r s failed delim within number reading held g = record {
   none = failed ∙ g.none;
   delimiter_is = delim ∙ g.delimiter_is;
@@ -52,8 +51,8 @@ RefusesHeld r e = (before more : List (List (List ℕ))) → IsPlain r.lines.ite
     Refuses (network_from (limits_of r.limits) (before ++ (records (byte_of r.delimiter) r.lines.items ++ more))) e
 
 -- then all records of the text were read
-pub given-through : (limits : EdgeLimits) (delimiter : Delimiter) (text : List ℕ) (r : EdgeReader) (n : ℕ) (labels : List (List ℕ)) (edges : List Edge) →
-    IsGiven limits delimiter text r → ReadsHeld r n labels edges → IsPlain text → IsThrough (limits_of r.limits) n (records (byte_of delimiter) text) labels edges
+pub given-through : (limits : Limits) (delimiter : Delimiter) (text : List ℕ) (r : EdgeReader) (n : ℕ) (labels : List (List ℕ)) (edges : List Edge) →
+    IsGivenUnder limits delimiter text r → ReadsHeld r n labels edges → IsPlain text → IsThrough (limits_of r.limits) n (records (byte_of delimiter) text) labels edges
 given-through limits delimiter text r n labels edges g reads plain =
     let d = byte_of delimiter in
     let whole : IsPlain (g.done ++ g.left) = rw g.text_is at plain in
@@ -63,9 +62,9 @@ given-through limits delimiter text r n labels edges g reads plain =
     (subst (λ (e : Delimiter). IsThrough (limits_of r.limits) n (records d g.done ++ records (byte_of e) r.lines.items) labels edges) g.delimiter_is read)
 
 -- the lines that were held are read
-pub given-read : (limits : EdgeLimits) (delimiter : Delimiter) (text : List ℕ) (r s : EdgeReader) →
-    IsGiven limits delimiter text r → EndsLine text → s.failed ≡ None → s.delimiter ≡ r.delimiter → s.limits ≡ r.limits → s.lines.items ≡ 10 ∷ [] →
-    ReadsHeld r s.number s.reading.labels s.reading.edges.items → IsGiven limits delimiter text s
+pub given-read : (limits : Limits) (delimiter : Delimiter) (text : List ℕ) (r s : EdgeReader) →
+    IsGivenUnder limits delimiter text r → EndsLine text → s.failed ≡ None → s.delimiter ≡ r.delimiter → s.limits ≡ r.limits → s.lines.items ≡ 10 ∷ [] →
+    ReadsHeld r s.number s.reading.labels s.reading.edges.items → IsGivenUnder limits delimiter text s
 given-read limits delimiter text r s g ends failed delim within held reads = record {
   none = failed;
   delimiter_is = delim ∙ g.delimiter_is;
@@ -79,13 +78,13 @@ given-read limits delimiter text r s g ends failed delim within held reads = rec
 }
 
 -- and what is left says the graph
-pub given-network : (limits : EdgeLimits) (delimiter : Delimiter) (text : List ℕ) (r : EdgeReader) (n : ℕ) (labels : List (List ℕ)) (edges : List Edge) →
-    IsGiven limits delimiter text r → ReadsHeld r n labels edges → IsPlain text → meaning_of limits delimiter text ≡ Ok (network_by labels edges)
+pub given-network : (limits : Limits) (delimiter : Delimiter) (text : List ℕ) (r : EdgeReader) (n : ℕ) (labels : List (List ℕ)) (edges : List Edge) →
+    IsGivenUnder limits delimiter text r → ReadsHeld r n labels edges → IsPlain text → meaning_under limits delimiter text ≡ Ok (network_by labels edges)
 given-network limits delimiter text r n labels edges g reads plain =
     rw (← g.limits_are) (through-network (limits_of r.limits) n (records (byte_of delimiter) text) labels edges (given-through limits delimiter text r n labels edges g reads plain))
 
-refused-by : (limits : EdgeLimits) (delimiter : Delimiter) (text : List ℕ) (r : EdgeReader) (rest : List (List (List ℕ))) (e : EdgeError) →
-    IsGiven limits delimiter text r → RefusesHeld r e → IsPlain text → Refuses (network_from (in_force (limits_of limits)) (records (byte_of delimiter) text ++ rest)) e
+refused-by : (limits : Limits) (delimiter : Delimiter) (text : List ℕ) (r : EdgeReader) (rest : List (List (List ℕ))) (e : EdgeError) →
+    IsGivenUnder limits delimiter text r → RefusesHeld r e → IsPlain text → Refuses (network_from limits (records (byte_of delimiter) text ++ rest)) e
 refused-by limits delimiter text r rest e g refuses plain =
     let d = byte_of delimiter in
     let whole : IsPlain (g.done ++ g.left) = rw g.text_is at plain in
@@ -95,15 +94,15 @@ refused-by limits delimiter text r rest e g refuses plain =
     (subst (λ (x : Delimiter). Refuses (network_from (limits_of r.limits) (records d g.done ++ (records (byte_of x) r.lines.items ++ rest))) e) g.delimiter_is told)
 
 -- a refusal is that of the text, whatever lines follow
-pub given-refused : (limits : EdgeLimits) (delimiter : Delimiter) (text more : List ℕ) (r : EdgeReader) (e : EdgeError) →
-    IsGiven limits delimiter text r → EndsLine text → RefusesHeld r e → IsPlain (text ++ more) → Refuses (meaning_of limits delimiter (text ++ more)) e
+pub given-refused : (limits : Limits) (delimiter : Delimiter) (text more : List ℕ) (r : EdgeReader) (e : EdgeError) →
+    IsGivenUnder limits delimiter text r → EndsLine text → RefusesHeld r e → IsPlain (text ++ more) → Refuses (meaning_under limits delimiter (text ++ more)) e
 given-refused limits delimiter text more r e g ends refuses plain =
     rw (records-joined (byte_of delimiter) text more ends) (refused-by limits delimiter text r (records (byte_of delimiter) more) e g refuses (plain-front text more ends plain))
 
-pub given-refused-all : (limits : EdgeLimits) (delimiter : Delimiter) (text : List ℕ) (r : EdgeReader) (e : EdgeError) →
-    IsGiven limits delimiter text r → RefusesHeld r e → IsPlain text → Refuses (meaning_of limits delimiter text) e
+pub given-refused-all : (limits : Limits) (delimiter : Delimiter) (text : List ℕ) (r : EdgeReader) (e : EdgeError) →
+    IsGivenUnder limits delimiter text r → RefusesHeld r e → IsPlain text → Refuses (meaning_under limits delimiter text) e
 given-refused-all limits delimiter text r e g refuses plain =
-    subst (λ (rs : List (List (List ℕ))). Refuses (network_from (in_force (limits_of limits)) rs) e) (append-nil (records (byte_of delimiter) text))
+    subst (λ (rs : List (List (List ℕ))). Refuses (network_from limits rs) e) (append-nil (records (byte_of delimiter) text))
     (refused-by limits delimiter text r [] e g refuses plain)
 
 -- of the lines that were read, one byte's room is kept, for an LF

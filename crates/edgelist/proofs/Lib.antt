@@ -12,6 +12,7 @@ pub mod CountLemmas
 pub mod LinksLemmas
 pub mod EdgeLemmas
 pub mod SortLemmas
+pub mod TailLemmas
 pub mod RangeLemmas
 pub mod DigestLemmas
 pub mod FeedLemmas

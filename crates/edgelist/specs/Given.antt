@@ -1,6 +1,6 @@
 -- What a reader of bytes was given.
 use Rattle.std.specs.Prelude.{◌≡◌, ℕ, List, ◌++◌, None, Some}
-use Rattle.ball_model.specs.Input.{IsPlain, in_force, records}
+use Rattle.ball_model.specs.Input.{IsPlain, Limits, in_force, in_force_large, records}
 use Rattle.edgelist.specs.Pieces.{EndsLine, IsLeftOf, IsThrough}
 use Rattle.edgelist.specs.Reading.{byte_of, limits_of}
 use Rattle.edgelist.specs.declared.pieces.EdgeReader.{EdgeReader}
@@ -8,12 +8,12 @@ use Rattle.edgelist.specs.declared.read.Delimiter.{Delimiter}
 use Rattle.edgelist.specs.declared.read.EdgeError.{EdgeError}
 use Rattle.edgelist.specs.declared.read.EdgeLimits.{EdgeLimits}
 
--- the reader was given the text, of which whole lines were read and the rest is held
-pub record IsGiven (limits : EdgeLimits) (delimiter : Delimiter) (text : List ℕ)
+-- under limits that are in force the reader was given the text, of which whole lines were read and the rest is held
+pub record IsGivenUnder (limits : Limits) (delimiter : Delimiter) (text : List ℕ)
     (reader : EdgeReader) : Type 0 where
   pub none : reader.failed ≡ None
   pub delimiter_is : reader.delimiter ≡ delimiter
-  pub limits_are : limits_of reader.limits ≡ in_force (limits_of limits)
+  pub limits_are : limits_of reader.limits ≡ limits
   pub done : List ℕ
   pub left : List ℕ
   pub text_is : text ≡ done ++ left
@@ -21,6 +21,16 @@ pub record IsGiven (limits : EdgeLimits) (delimiter : Delimiter) (text : List �
   pub held : IsLeftOf done left reader.lines.items
   pub through : IsPlain done → IsThrough (limits_of reader.limits) reader.number
       (records (byte_of delimiter) done) reader.reading.labels reader.reading.edges.items
+
+-- a reader of a usual edge list was given the text
+abbrev pub IsGiven : EdgeLimits → Delimiter → List ℕ → EdgeReader → Type 0
+IsGiven limits delimiter text reader =
+    IsGivenUnder (in_force (limits_of limits)) delimiter text reader
+
+-- a reader of a large edge list was given the text
+abbrev pub IsGivenLarge : EdgeLimits → Delimiter → List ℕ → EdgeReader → Type 0
+IsGivenLarge limits delimiter text reader =
+    IsGivenUnder (in_force_large (limits_of limits)) delimiter text reader
 
 -- the reader answered that error, and answers it to each call that follows
 abbrev pub HasFailed : EdgeError → EdgeReader → Type 0

@@ -11,10 +11,16 @@ use Rattle.ball_model.specs.RunText.{Numbers}
 use Rattle.ball_model.specs.declared.plan.Estimate.{Estimate}
 use Rattle.ball_model.specs.declared.plan.Estimate.TheVariants.{Raw, Corrected}
 
--- the four numbers that a plan with raw estimates is asked for by
+-- the four numbers that a usual plan with raw estimates is asked for by
 abbrev pub numbers_of : ℕ → ℕ → ℕ → ℕ → Numbers
-numbers_of log2m seed parts limit =
-    record { log2m = log2m; seed = seed; parts = parts; limit = limit; corrected = false }
+numbers_of log2m seed parts limit = record {
+  log2m = log2m;
+  seed = seed;
+  parts = parts;
+  limit = limit;
+  corrected = false;
+  large = false;
+}
 
 -- the plan of these numbers over a graph, but for its digest
 abbrev pub bare_plan : Numbers → Graph → PlanValue
@@ -44,8 +50,14 @@ is_corrected Corrected = true
 
 -- with raw estimates or corrected ones
 abbrev pub numbers_with : Bool → ℕ → ℕ → ℕ → ℕ → Numbers
-numbers_with corrected log2m seed parts limit =
-    record { log2m = log2m; seed = seed; parts = parts; limit = limit; corrected = corrected }
+numbers_with corrected log2m seed parts limit = record {
+  log2m = log2m;
+  seed = seed;
+  parts = parts;
+  limit = limit;
+  corrected = corrected;
+  large = false;
+}
 
 -- the digest of the job of these four numbers over a graph, with raw estimates or corrected ones
 abbrev pub numbered_digest : Bool → ℕ → ℕ → ℕ → ℕ → Graph → List ℕ

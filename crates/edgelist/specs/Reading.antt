@@ -2,7 +2,7 @@
 use Rattle.std.specs.Prelude.{◌≡◌, ⊤, ℕ, ◌+◌, ◌-◌, ◌^◌, ◌<◌, ◌≤◌, Bool, true, false, List, [], ◌∷◌, ◌++◌, map, length, slice_index_or, if◌then◌else◌, Option, None, Some, Result, Ok, Err, IfErr, OnOk}
 use Rattle.std.specs.List.{list_any}
 use Rattle.std.specs.Str.{bytes_eq}
-use Rattle.ball_model.specs.Input.{Network, Limits, Refusal, TooManyEdges, Fields, TooManyVertices, fault_at, labels_of, records, network_from, input_of}
+use Rattle.ball_model.specs.Input.{Network, Limits, Refusal, TooManyEdges, Fields, TooManyVertices, fault_at, labels_of, records, network_from, input_of, large_input_of}
 use Rattle.csv.specs.declared.reader.Reader.{Reader}
 use Rattle.edgelist.specs.Records.{IsLeft, StopsAtEnd}
 use Rattle.edgelist.specs.Edges.{AllBelow, edge_of, graph_of_edges}
@@ -22,6 +22,10 @@ byte_of delimiter.Space = 32
 abbrev pub limits_of : EdgeLimits → Limits
 limits_of limits = record { vertices = limits.vertices; edges = limits.edges }
 
+-- what a text says under limits that are in force
+abbrev pub meaning_under : Limits → Delimiter → List ℕ → Result Network Refusal
+meaning_under limits delimiter text = network_from limits (records (byte_of delimiter) text)
+
 -- what a text says under these limits
 abbrev pub meaning_within : EdgeLimits → Delimiter → List ℕ → Result Network Refusal
 meaning_within limits delimiter text =
@@ -30,6 +34,11 @@ meaning_within limits delimiter text =
 -- what a text says under the limits in force
 abbrev pub meaning_of : EdgeLimits → Delimiter → List ℕ → Result Network Refusal
 meaning_of limits delimiter text = input_of (byte_of delimiter) (limits_of limits) text
+
+-- what a large text says under the limits in force
+abbrev pub large_meaning_of : EdgeLimits → Delimiter → List ℕ → Result Network Refusal
+large_meaning_of limits delimiter text =
+    large_input_of (byte_of delimiter) (limits_of limits) text
 
 -- a count of failed calls rose from a number below the greatest that can be told
 abbrev pub CountsOne : ℕ → ℕ → Type 0

@@ -44,7 +44,8 @@ pub use lists::Preds;
 pub use part::Part;
 pub use pieces::EdgeReader;
 pub use read::{
-    Delimiter, EdgeError, EdgeLimits, EdgeList, LIMITS, MOST_RECORDS, read_edge_list, read_edges,
+    Delimiter, EdgeError, EdgeLimits, EdgeList, LARGE_LIMITS, LIMITS, MOST_RECORDS, USUAL_RECORDS,
+    read_edge_list, read_edges, read_large_edge_list,
 };
 
 #[cfg(test)]

@@ -1,6 +1,6 @@
 //! Lists of predecessors as gap codes.
 
-ghost use Rattle.std.specs.Prelude.{◌≡◌, ◌^◌, ◌<◌, length, slice_index_or, []};
+ghost use Rattle.std.specs.Prelude.{◌≡◌, ◌^◌, ◌<◌, ◌≤◌, length, slice_index_or, []};
 ghost use Rattle.std.specs.List.{sum_by};
 ghost use Rattle.std.specs.Iterator.{YieldsFirst, item_count};
 
@@ -86,6 +86,16 @@ impl PredLists {
         ensures few { result < 2 ^ 32 }
     {
         self.total
+    }
+
+    /// A list between these two, before which stands about half of the codes of those between.
+    pub fn middle(&self, from: usize, to: usize) -> usize
+        requires order { from ≤ to }
+        requires inside { to ≤ length self.now }
+        ensures first { from ≤ result }
+        ensures last { result ≤ to }
+    {
+        self.codes.middle(from, to)
     }
 
     /// List i.

@@ -30,6 +30,9 @@ const FIRST_ENTRIES: usize = 131_072;
 // A table of so many entries is in the cache most often, and there is no need to look ahead.
 const IN_CACHE: usize = 524_288;
 
+// From so many entries on a table grows by 2 and not by 4, as one with room for many more would take much memory.
+const MANY_ENTRIES: usize = 33_554_432;
+
 // The number of entries of a group: they stand side by side, most often in one line of the cache.
 const GROUP: usize = 4;
 
@@ -274,6 +277,15 @@ fn remember(entries: &mut [LabelGuess], word: LabelWord, number: usize)
     put(entries, entry);
 }
 
+// How many entries a table has that takes the place of one with so many.
+fn larger(count: usize) -> usize {
+    if count < MANY_ENTRIES {
+        count.saturating_mul(4)
+    } else {
+        count.saturating_mul(2)
+    }
+}
+
 // Entries that hold no label.
 fn blank(alloc: Global, count: usize) -> Result<Vec<LabelGuess>, AllocError>
     ensures { IfOk result (λ entries. entries.items ≡ replicate count blank_entry) }
@@ -382,18 +394,19 @@ impl Numbering {
         Ok(number)
     }
 
-    // Puts a short label into the set, once the table of guesses has room for it.
+    // Puts a short label into the set. The table of guesses grows first where it has no room for it, and is left as it
+    // is where memory for a larger one is refused: then some guesses are lost, and the set tells those numbers.
     fn insert_short(&mut self, alloc: Global, label: &[u8]) -> Result<usize, AllocError>
         ensures found { IfOk result (StandsAt self.new label.now) }
         ensures labels { OnOk result (self.new ≡ with_label self.old label.now) }
         ensures kept { OnErr result (self.new ≡ self.old) }
     {
-        self.make_room(alloc, 1)?;
+        let _room = self.make_room(alloc, 1);
         insert(alloc, &mut self.labels, label)
     }
 
     /// Looks at the first entry for each short label of these rows, and makes room for as many as have a blank one there.
-    /// No look waits for another. Where memory is refused, whoever puts a label there later is told so.
+    /// No look waits for another. Where memory is refused, the table is left as it is.
     pub(crate) fn look_ahead(&mut self, alloc: Global, rows: &[Row])
         ensures { self.new ≡ self.old }
     {
@@ -403,13 +416,13 @@ impl Numbering {
         }
     }
 
-    // Four times as many entries, where there would be more labels than entries with so many new ones.
+    // A larger table, where there would be more labels than entries with so many new ones.
     fn make_room(&mut self, alloc: Global, new: usize) -> Result<(), AllocError>
         ensures { self.new ≡ self.old }
     {
         let count = self.entries.len();
         if self.len().saturating_add(new) > count {
-            let mut entries = blank(alloc, count.saturating_mul(4))?;
+            let mut entries = blank(alloc, larger(count))?;
             put_entries(&mut entries, &self.entries);
             self.entries = entries;
         }

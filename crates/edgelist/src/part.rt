@@ -1,6 +1,6 @@
 //! What a partition is told of its graph.
 
-ghost use Rattle.std.specs.Prelude.{◌≡◌, ◌+◌, ◌*◌, ◌^◌, ◌<◌, ◌++◌, ◌∷◌, [], ℕ, false};
+ghost use Rattle.std.specs.Prelude.{◌≡◌, ◌+◌, ◌*◌, ◌^◌, ◌<◌, ◌≤◌, ◌++◌, ◌∷◌, [], ℕ, false};
 ghost use Rattle.std.specs.Prelude.{length, map, slice_index, slice_index_or, IfOk, OnOk};
 ghost use Rattle.std.specs.Arc.{arc_value};
 ghost use Rattle.std.specs.List.{All, range_with_len, sum_by};
@@ -104,6 +104,17 @@ impl Part {
         ensures below { All (λ z. z < self.now.plan.vertices) result }
     {
         self.lists.list(i as usize)
+    }
+
+    /// A vertex between those with these two indexes, where the work on their predecessors is cut in two: before it stands
+    /// about half of what codes these. It takes time as the number of digits of the vertices between.
+    pub fn middle(&self, from: u32, to: u32) -> u32
+        requires order { from ≤ to }
+        requires inside { to ≤ length self.now.preds }
+        ensures first { from ≤ result }
+        ensures last { result ≤ to }
+    {
+        self.lists.middle(from as usize, to as usize) as u32
     }
 
     /// The number of edges to its vertices.

@@ -6,17 +6,19 @@
 ghost use Rattle.std.specs.Prelude.{◌≡◌, ◌≢◌, ◌<◌, ◌≤◌, ◌++◌, ◌∷◌, [], ℕ, List, None, Some, length};
 ghost use Rattle.std.specs.Prelude.{Err, IfErr, IfOk, Ok, OnOk, Result};
 ghost use Rattle.std.proofs.Props.{props};
-ghost use Rattle.ball_model.specs.Input.{IsPlain, Network, Refusal, most_records, network_from};
+ghost use Rattle.ball_model.specs.Input.{IsPlain, Limits, Network, Refusal, most_records, network_from};
 ghost use Rattle.ball_model.specs.Input.{records};
 ghost use Rattle.ball_model.specs.PlanValue.{most_vertices};
 ghost use Rattle.edgelist.specs.Pieces.{IsThrough};
-ghost use Rattle.edgelist.specs.Reading.{AreWithin, Refuses, byte_of, limits_of, meaning_of};
+ghost use Rattle.edgelist.specs.Reading.{AreWithin, Refuses, byte_of, limits_of, meaning_under};
 ghost use Rattle.edgelist.specs.declared.read.EdgeError.TheVariants as refused;
 
-use crate::read::{Delimiter, EdgeError, EdgeLimits, EdgeList, MOST_RECORDS, Reading};
+use crate::read::{
+    Delimiter, EdgeError, EdgeLimits, EdgeList, MOST_RECORDS, Reading, USUAL_RECORDS,
+};
 use crate::records::reader_of;
 use crate::row::{AT_ONCE, Row, rows_for};
-use ball_model::plan::MOST_VERTICES;
+use ball_model::plan::{MOST_VERTICES, USUAL_VERTICES};
 use std::alloc::Global;
 use std::hash::RandomState;
 
@@ -110,7 +112,7 @@ impl Drop for EdgeReader {
 }
 
 impl EdgeReader {
-    ghost use Rattle.edgelist.specs.Given.{HasFailed, IsGiven};
+    ghost use Rattle.edgelist.specs.Given.{HasFailed, IsGiven, IsGivenLarge, IsGivenUnder};
     ghost use Rattle.edgelist.specs.Pieces.{EndsLine};
 
     /// Nothing was given yet. The only error is that memory was refused.
@@ -124,9 +126,42 @@ impl EdgeReader {
         ensures memory { IfErr result (λ e. e ≡ EdgeError.Memory) }
     {
         let limits = EdgeLimits {
+            vertices: limits.vertices.min(USUAL_VERTICES),
+            edges: limits.edges.min(USUAL_RECORDS),
+        };
+        EdgeReader::under(alloc, state, delimiter, limits)
+    }
+
+    /// A reader of a large edge list, given nothing yet: at most 2^31 vertices and 2^32 - 1 records. The only error is that
+    /// memory was refused.
+    pub fn large(
+        alloc: Global,
+        state: RandomState,
+        delimiter: Delimiter,
+        limits: EdgeLimits,
+    ) -> Result<EdgeReader, EdgeError>
+        ensures ok { IfOk result (IsGivenLarge limits delimiter []) }
+        ensures memory { IfErr result (λ e. e ≡ EdgeError.Memory) }
+    {
+        let limits = EdgeLimits {
             vertices: limits.vertices.min(MOST_VERTICES),
             edges: limits.edges.min(MOST_RECORDS),
         };
+        EdgeReader::under(alloc, state, delimiter, limits)
+    }
+
+    // Nothing was given yet, and these limits are in force.
+    fn under(
+        alloc: Global,
+        state: RandomState,
+        delimiter: Delimiter,
+        limits: EdgeLimits,
+    ) -> Result<EdgeReader, EdgeError>
+        requires vertices { limits.vertices ≤ most_vertices }
+        requires edges { limits.edges ≤ most_records }
+        ensures ok { IfOk result (IsGivenUnder (limits_of limits) delimiter []) }
+        ensures memory { IfErr result (λ e. e ≡ EdgeError.Memory) }
+    {
         let reading = Reading::new(alloc, state)?;
         let rows = rows_for(alloc, AT_ONCE)?;
         Ok(EdgeReader {
@@ -144,12 +179,12 @@ impl EdgeReader {
     fn read_held(&mut self, alloc: Global) -> Result<(), EdgeError>
         requires none { self.old.failed ≡ None }
         requires some { 0 < length self.old.lines.items }
-        ensures ok { (limits : EdgeLimits) (delimiter : Delimiter) (text : List ℕ) →
-            IsGiven limits delimiter text self.old → EndsLine text →
-            OnOk result (IsGiven limits delimiter text self.new) }
-        ensures refused { (limits : EdgeLimits) (delimiter : Delimiter) (text more : List ℕ) →
-            IsGiven limits delimiter text self.old → EndsLine text → IsPlain (text ++ more) →
-            IfErr result (Refuses (meaning_of limits delimiter (text ++ more))) }
+        ensures ok { (limits : Limits) (delimiter : Delimiter) (text : List ℕ) →
+            IsGivenUnder limits delimiter text self.old → EndsLine text →
+            OnOk result (IsGivenUnder limits delimiter text self.new) }
+        ensures refused { (limits : Limits) (delimiter : Delimiter) (text more : List ℕ) →
+            IsGivenUnder limits delimiter text self.old → EndsLine text → IsPlain (text ++ more) →
+            IfErr result (Refuses (meaning_under limits delimiter (text ++ more))) }
         ensures stays { IfErr result (λ e. HasFailed e self.new) }
         ensures read { result ≢ Err EdgeError.Read }
     {
@@ -179,12 +214,12 @@ impl EdgeReader {
     ///
     /// A refusal is that of the whole edge list, whatever follows. After an error each call answers that error.
     pub fn add(&mut self, alloc: Global, byte: u8) -> Result<(), EdgeError>
-        ensures ok { (limits : EdgeLimits) (delimiter : Delimiter) (text : List ℕ) →
-            IsGiven limits delimiter text self.old →
-            OnOk result (IsGiven limits delimiter (text ++ byte ∷ []) self.new) }
-        ensures refused { (limits : EdgeLimits) (delimiter : Delimiter) (text more : List ℕ) →
-            IsGiven limits delimiter text self.old → IsPlain (text ++ byte ∷ more) →
-            IfErr result (Refuses (meaning_of limits delimiter (text ++ byte ∷ more))) }
+        ensures ok { (limits : Limits) (delimiter : Delimiter) (text : List ℕ) →
+            IsGivenUnder limits delimiter text self.old →
+            OnOk result (IsGivenUnder limits delimiter (text ++ byte ∷ []) self.new) }
+        ensures refused { (limits : Limits) (delimiter : Delimiter) (text more : List ℕ) →
+            IsGivenUnder limits delimiter text self.old → IsPlain (text ++ byte ∷ more) →
+            IfErr result (Refuses (meaning_under limits delimiter (text ++ byte ∷ more))) }
         ensures again { (e : EdgeError) → HasFailed e self.old → result ≡ Err e }
         ensures stays { IfErr result (λ e. HasFailed e self.new) }
         ensures read { result ≢ Err EdgeError.Read }
@@ -204,15 +239,15 @@ impl EdgeReader {
 
     /// The edge list that was given.
     pub fn finish(self, alloc: Global) -> Result<EdgeList, EdgeError>
-        ensures ok { (limits : EdgeLimits) (delimiter : Delimiter) (text : List ℕ) →
-            IsGiven limits delimiter text self → IsPlain text →
-            IfOk result (λ list. meaning_of limits delimiter text ≡ Ok list.graph) }
-        ensures count { (limits : EdgeLimits) (delimiter : Delimiter) (text : List ℕ) →
-            IsGiven limits delimiter text self → IsPlain text →
+        ensures ok { (limits : Limits) (delimiter : Delimiter) (text : List ℕ) →
+            IsGivenUnder limits delimiter text self → IsPlain text →
+            IfOk result (λ list. meaning_under limits delimiter text ≡ Ok list.graph) }
+        ensures count { (limits : Limits) (delimiter : Delimiter) (text : List ℕ) →
+            IsGivenUnder limits delimiter text self → IsPlain text →
             IfOk result (λ list. list.records ≡ length (records (byte_of delimiter) text)) }
-        ensures refused { (limits : EdgeLimits) (delimiter : Delimiter) (text : List ℕ) →
-            IsGiven limits delimiter text self → IsPlain text →
-            IfErr result (Refuses (meaning_of limits delimiter text)) }
+        ensures refused { (limits : Limits) (delimiter : Delimiter) (text : List ℕ) →
+            IsGivenUnder limits delimiter text self → IsPlain text →
+            IfErr result (Refuses (meaning_under limits delimiter text)) }
         ensures again { (e : EdgeError) → HasFailed e self → result ≡ Err e }
         ensures read { result ≢ Err EdgeError.Read }
     {

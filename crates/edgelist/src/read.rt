@@ -18,6 +18,7 @@ ghost use Rattle.edgelist.specs.Pieces.{AddsRecords, IsPartRead, IsThrough, Read
 ghost use Rattle.edgelist.specs.Records.{ForPlain, FromStart, HasForm, ReadsNone, ReadsNoneAfter};
 ghost use Rattle.edgelist.specs.Records.{ReadsOne, ReadsOneAfter};
 ghost use Rattle.edgelist.specs.Reading.{byte_of, limits_of, meaning_of, meaning_within, CountsOne};
+ghost use Rattle.edgelist.specs.Reading.{large_meaning_of};
 ghost use Rattle.edgelist.specs.Reading.{IsReadBy, Refuses, edge_error, has_label};
 ghost use Rattle.edgelist.specs.Reading.{with_label, network_by};
 ghost use Rattle.edgelist.specs.Reading.{AreWithin, AddsEdge, Exceeds, AddsRecord, Stops};
@@ -29,7 +30,7 @@ use crate::numbering::{LabelWord, Numbering};
 use crate::records::reader_of;
 use crate::row::{AT_ONCE, Row, rows_for};
 use ball_model::CountedRead;
-use ball_model::plan::MOST_VERTICES;
+use ball_model::plan::{MOST_VERTICES, USUAL_VERTICES};
 use csv::Reader;
 use std::alloc::{AllocError, Global};
 use std::hash::RandomState;
@@ -96,11 +97,20 @@ pub struct EdgeLimits {
     pub edges: u64,
 }
 
-/// The most records under any limits, 2^26.
-pub const MOST_RECORDS: u64 = 67_108_864;
+/// The most records under any limits, 2^32 - 1.
+pub const MOST_RECORDS: u64 = 4_294_967_295;
 
-/// What a run, a replay and a node read at most of an edge list.
+/// The most records that the usual calls read, 2^26.
+pub const USUAL_RECORDS: u64 = 67_108_864;
+
+/// What a run, a replay, a node and a gathering read at most of an edge list, if no large one is asked for.
 pub const LIMITS: EdgeLimits = EdgeLimits {
+    vertices: USUAL_VERTICES,
+    edges: USUAL_RECORDS,
+};
+
+/// What a run, a node and a gathering read at most of a large edge list.
+pub const LARGE_LIMITS: EdgeLimits = EdgeLimits {
     vertices: MOST_VERTICES,
     edges: MOST_RECORDS,
 };
@@ -574,6 +584,41 @@ fn read_answer(read: Result<EdgeList, EdgeError>, failed: bool) -> Result<EdgeLi
     }
 }
 
+// Reads an edge list under these limits, and answers `Read` if a call of the reader failed.
+fn read_counted<R: CountedRead>(
+    alloc: Global,
+    state: RandomState,
+    reader: &mut R,
+    delimiter: Delimiter,
+    limits: EdgeLimits,
+) -> Result<EdgeList, EdgeError>
+    requires vertices { limits.vertices ≤ most_vertices }
+    requires edges { limits.edges ≤ most_records }
+    ensures ok { ForPlain (R.remaining reader.old) (λ text.
+        IfOk result (λ list. meaning_within limits delimiter text ≡ Ok list.graph)) }
+    ensures count { ForPlain (R.remaining reader.old) (λ text. IfOk result (λ list.
+        list.records ≡ length (records (byte_of delimiter) text))) }
+    ensures refused { ForPlain (R.remaining reader.old) (λ text.
+        IfErr result (Refuses (meaning_within limits delimiter text))) }
+    ensures read { result ≡ Err EdgeError.Read →
+        R.failed_calls reader.old < R.failed_calls reader.new }
+    ensures failed { CountsOne (R.failed_calls reader.old) (R.failed_calls reader.new) →
+        result ≡ Err EdgeError.Read }
+{
+    let before = reader.failures();
+    let result = read_graph(
+        alloc,
+        state,
+        Counted {
+            reader: &mut *reader,
+        },
+        delimiter,
+        limits,
+    );
+    let failed = reader.failures() > before;
+    read_answer(result, failed)
+}
+
 /// Reads an edge list, and numbers its labels from 0 by first appearance, a record's first field first.
 ///
 /// Lines end in LF or CRLF, and the last may lack its end. Empty lines and lines that begin with `#` are skipped;
@@ -604,22 +649,38 @@ pub fn read_edge_list<R: CountedRead>(
     ensures failed { CountsOne (R.failed_calls reader.old) (R.failed_calls reader.new) →
         result ≡ Err EdgeError.Read }
 {
-    let before = reader.failures();
+    let limits = EdgeLimits {
+        vertices: limits.vertices.min(USUAL_VERTICES),
+        edges: limits.edges.min(USUAL_RECORDS),
+    };
+    read_counted(alloc, state, reader, delimiter, limits)
+}
+
+/// Reads a large edge list as [`read_edge_list`] reads others, but for the limits: those in force are never above 2^31
+/// vertices and 2^32 - 1 records.
+pub fn read_large_edge_list<R: CountedRead>(
+    alloc: Global,
+    state: RandomState,
+    reader: &mut R,
+    delimiter: Delimiter,
+    limits: EdgeLimits,
+) -> Result<EdgeList, EdgeError>
+    ensures ok { ForPlain (R.remaining reader.old) (λ text.
+        IfOk result (λ list. large_meaning_of limits delimiter text ≡ Ok list.graph)) }
+    ensures count { ForPlain (R.remaining reader.old) (λ text. IfOk result (λ list.
+        list.records ≡ length (records (byte_of delimiter) text))) }
+    ensures refused { ForPlain (R.remaining reader.old) (λ text.
+        IfErr result (Refuses (large_meaning_of limits delimiter text))) }
+    ensures read { result ≡ Err EdgeError.Read →
+        R.failed_calls reader.old < R.failed_calls reader.new }
+    ensures failed { CountsOne (R.failed_calls reader.old) (R.failed_calls reader.new) →
+        result ≡ Err EdgeError.Read }
+{
     let limits = EdgeLimits {
         vertices: limits.vertices.min(MOST_VERTICES),
         edges: limits.edges.min(MOST_RECORDS),
     };
-    let result = read_graph(
-        alloc,
-        state,
-        Counted {
-            reader: &mut *reader,
-        },
-        delimiter,
-        limits,
-    );
-    let failed = reader.failures() > before;
-    read_answer(result, failed)
+    read_counted(alloc, state, reader, delimiter, limits)
 }
 
 /// Reads an edge list as [`read_edge_list`] does, and gives its graph alone.

@@ -3,6 +3,7 @@
 mod counting;
 mod damage;
 mod labels;
+mod large;
 mod parts;
 mod pieces;
 mod reading;
@@ -12,7 +13,7 @@ ghost use Rattle.std.specs.Prelude.{None};
 
 use crate::{
     CountedError, Delimiter, EdgeError, EdgeLimits, EdgeList, EdgeReader, Graph, Part, Preds, laws,
-    read_edge_list, read_edges,
+    read_edge_list, read_edges, read_large_edge_list,
 };
 use ball_model::{CountingReader, Estimate, PlanError};
 use sha2::{Digest, Sha256};

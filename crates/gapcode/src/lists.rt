@@ -70,6 +70,17 @@ impl Lists {
         Elements::at(&self.bytes, self.places.at(i))
     }
 
+    /// A list between these two, before which stands about half of the bits of those between: where work on them is cut
+    /// in two. It looks at as many places as the number of lists between has binary digits.
+    pub fn middle(&self, from: usize, to: usize) -> usize
+        requires order { from ≤ to }
+        requires inside { to ≤ length self.now }
+        ensures first { from ≤ result }
+        ensures last { result ≤ to }
+    {
+        middle_of(&self.places, from, to)
+    }
+
     /// The bytes that spell the lists.
     pub fn bytes(&self) -> &[u8]
         ensures spelling { IsSpelling result.now self.now }
@@ -93,6 +104,30 @@ impl Lists {
     {
         checked(alloc, bytes, count, bound)
     }
+}
+
+// The first of the places between these two that is not before the middle of the first and the last one.
+fn middle_of(places: &Places, from: usize, to: usize) -> usize
+    requires order { from ≤ to }
+    requires inside { to ≤ length places.now }
+    ensures first { from ≤ result }
+    ensures last { result ≤ to }
+{
+    if from == to {
+        return from;
+    }
+    let half = places.at(from) / 2 + places.at(to - 1) / 2;
+    let mut low = from;
+    let mut high = to - 1;
+    while low < high {
+        let mid = low + (high - low) / 2;
+        if places.at(mid) < half {
+            low = mid + 1;
+        } else {
+            high = mid;
+        }
+    }
+    low
 }
 
 // The lists that the bytes spell, or the first fault.

@@ -47,20 +47,20 @@ pub flag_is : (f : Found) (id : Text) (given b : Bool) → (one_text f id ≡ No
 flag_is f id given b none value other is =
     flag_of (one_text f id) given b none value other (subst (λ o. MatchOption o (b ≡ false) (λ t. t ≡ flag_text b)) (sym (one_text-rows f id)) is)
 
-pub same_words : (log2m seed parts limit : ℕ) (e : Estimate) (d : Delimiter) (replicas entries keep patience : ℕ) (counted : Bool) (w : RunWords) → log2m ≡ w.options.log2m → seed ≡ w.options.seed → parts ≡ w.options.parts → limit ≡ w.options.limit →
-    e ≡ w.options.estimate → d ≡ w.options.delimiter → replicas ≡ w.options.replicas → entries ≡ w.options.entries → keep ≡ w.options.keep → patience ≡ w.options.patience → counted ≡ w.counted →
-    ◌≡◌ {A = RunWords} (record { options = record { log2m = log2m; seed = seed; parts = parts; limit = limit; estimate = e; delimiter = d; replicas = replicas; entries = entries; keep = keep; patience = patience }; counted = counted }) w
-same_words log2m seed parts limit e d replicas entries keep patience counted w a b p l k g r n m q h = λ i. record { options = record { log2m = a i; seed = b i; parts = p i; limit = l i; estimate = k i; delimiter = g i; replicas = r i; entries = n i; keep = m i; patience = q i }; counted = h i }
+pub same_words : (log2m seed parts limit : ℕ) (e : Estimate) (d : Delimiter) (large : Bool) (replicas entries keep patience threads : ℕ) (counted : Bool) (w : RunWords) → log2m ≡ w.options.log2m → seed ≡ w.options.seed → parts ≡ w.options.parts → limit ≡ w.options.limit →
+    e ≡ w.options.estimate → d ≡ w.options.delimiter → large ≡ w.options.large → replicas ≡ w.options.replicas → entries ≡ w.options.entries → keep ≡ w.options.keep → patience ≡ w.options.patience → threads ≡ w.options.threads → counted ≡ w.counted →
+    ◌≡◌ {A = RunWords} (record { options = record { log2m = log2m; seed = seed; parts = parts; limit = limit; estimate = e; delimiter = d; large = large; replicas = replicas; entries = entries; keep = keep; patience = patience; threads = threads }; counted = counted }) w
+same_words log2m seed parts limit e d large replicas entries keep patience threads counted w a b p l k g z r n m q t h = λ i. record { options = record { log2m = a i; seed = b i; parts = p i; limit = l i; estimate = k i; delimiter = g i; large = z i; replicas = r i; entries = n i; keep = m i; patience = q i; threads = t i }; counted = h i }
 
 pub same_replay_words : (log2m seed parts limit replicas : ℕ) (e : Estimate) (d : Delimiter) (counted progress : Bool) (w : ReplayWords) → log2m ≡ w.options.log2m → seed ≡ w.options.seed → parts ≡ w.options.parts → limit ≡ w.options.limit → replicas ≡ w.options.replicas →
     e ≡ w.options.estimate → d ≡ w.options.delimiter → counted ≡ w.counted → progress ≡ w.progress →
     ◌≡◌ {A = ReplayWords} (record { options = record { log2m = log2m; seed = seed; parts = parts; limit = limit; replicas = replicas; estimate = e; delimiter = d }; counted = counted; progress = progress }) w
 same_replay_words log2m seed parts limit replicas e d counted progress w a b p l r k g h t = λ i. record { options = record { log2m = a i; seed = b i; parts = p i; limit = l i; replicas = r i; estimate = k i; delimiter = g i }; counted = h i; progress = t i }
 
-pub same_job_options : (log2m seed parts limit : ℕ) (e : Estimate) (d : Delimiter) (counted : Bool) (o : JobOptions) → log2m ≡ o.log2m → seed ≡ o.seed → parts ≡ o.parts → limit ≡ o.limit →
-    e ≡ o.estimate → d ≡ o.delimiter → counted ≡ o.counted →
-    ◌≡◌ {A = JobOptions} (record { log2m = log2m; seed = seed; parts = parts; limit = limit; estimate = e; delimiter = d; counted = counted }) o
-same_job_options log2m seed parts limit e d counted o a b p l k g h = λ i. record { log2m = a i; seed = b i; parts = p i; limit = l i; estimate = k i; delimiter = g i; counted = h i }
+pub same_job_options : (log2m seed parts limit : ℕ) (e : Estimate) (d : Delimiter) (large counted : Bool) (o : JobOptions) → log2m ≡ o.log2m → seed ≡ o.seed → parts ≡ o.parts → limit ≡ o.limit →
+    e ≡ o.estimate → d ≡ o.delimiter → large ≡ o.large → counted ≡ o.counted →
+    ◌≡◌ {A = JobOptions} (record { log2m = log2m; seed = seed; parts = parts; limit = limit; estimate = e; delimiter = d; large = large; counted = counted }) o
+same_job_options log2m seed parts limit e d large counted o a b p l k g z h = λ i. record { log2m = a i; seed = b i; parts = p i; limit = l i; estimate = k i; delimiter = g i; large = z i; counted = h i }
 
 pub same_node_words : (o : JobOptions) (part : ℕ) (progress : Bool) (w : NodeWords) → o ≡ w.options → part ≡ w.part → progress ≡ w.progress → ◌≡◌ {A = NodeWords} (record { options = o; part = part; progress = progress }) w
 same_node_words o part progress w a p t = λ i. record { options = a i; part = p i; progress = t i }

@@ -66,6 +66,10 @@ number32 = vp.Signed (pos 0) (pos 4294967295)
 abbrev pub number64 : ValueParser
 number64 = vp.Unsigned 0 18446744073709551615
 
+-- a number of threads
+abbrev pub thread_number : ValueParser
+thread_number = vp.Signed (pos 0) (pos 1024)
+
 -- a command with the options of the counters
 abbrev pub with_counters : App → App
 with_counters app = with_rule (with_rule app
@@ -96,11 +100,19 @@ with_nodes app = with_rule (with_rule (with_rule (with_rule app
     (option_rule (codes "keep") number32))
     (option_rule (codes "patience") number32)
 
+-- a command with the number of threads
+abbrev pub with_threads : App → App
+with_threads app = with_rule app (option_rule (codes "threads") thread_number)
+
 -- a command with the lists of orders
 abbrev pub with_orders : App → App
 with_orders app = with_rule (with_rule app
     (option_rule (codes "lose") vp.String))
     (option_rule (codes "restart") vp.String)
+
+-- a command with the flag of large edge lists
+abbrev pub with_large : App → App
+with_large app = with_rule app (flag_rule (codes "large"))
 
 -- a command with the flag of progress
 abbrev pub with_progress : App → App
@@ -112,7 +124,9 @@ with_job p app = with_input p.delimiters (with_estimate p.estimates (with_number
 
 -- the subcommand `run`
 unfoldable pub run_app : Parsers → App
-run_app p = with_progress (with_orders (with_nodes (with_job p (new_app (codes "run")))))
+run_app p =
+    with_progress (with_large (with_orders (with_threads (with_nodes
+    (with_job p (new_app (codes "run")))))))
 
 -- the subcommand `replay`
 unfoldable pub replay_app : Parsers → App
@@ -122,12 +136,12 @@ replay_app p =
 
 -- the subcommand `node`
 unfoldable pub node_app : Parsers → App
-node_app p = with_progress
-    (with_rule (with_job p (new_app (codes "node"))) (option_rule (codes "part") number16))
+node_app p = with_progress (with_large
+    (with_rule (with_job p (new_app (codes "node"))) (option_rule (codes "part") number16)))
 
 -- the subcommand `gather`
 unfoldable pub gather_app : Parsers → App
-gather_app p = with_progress (with_job p (new_app (codes "gather")))
+gather_app p = with_progress (with_large (with_job p (new_app (codes "gather"))))
 
 -- the program, which has a version and wants a subcommand, before it has one
 abbrev pub new_hyperball : App

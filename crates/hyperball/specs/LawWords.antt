@@ -38,7 +38,7 @@ node_words = record {
 
 abbrev pub board_words : RunWords
 board_words = record {
-  options = record usual_options { entries = 64; patience = 10 };
+  options = record usual_options { entries = 64; patience = 10; threads = 2; large = true };
   counted = false;
 }
 
@@ -88,6 +88,7 @@ usual_job = record {
   limit = greatest_limit;
   estimate = Raw;
   delimiter = Tab;
+  large = false;
   counted = false;
 }
 
@@ -96,7 +97,7 @@ usual_node = record { options = usual_job; part = 0; progress = false }
 
 abbrev pub third_node : NodeWords
 third_node = record {
-  options = record usual_job { log2m = 4; parts = 3; counted = true };
+  options = record usual_job { log2m = 4; parts = 3; large = true; counted = true };
   part = 2;
   progress = false;
 }
@@ -106,7 +107,7 @@ telling_node = record { options = usual_job; part = 0; progress = true }
 
 abbrev pub gathered_job : GatherWords
 gathered_job = record {
-  options = record usual_job { parts = 3; estimate = Corrected; delimiter = Comma };
+  options = record usual_job { parts = 3; estimate = Corrected; delimiter = Comma; large = true };
   progress = false;
 }
 

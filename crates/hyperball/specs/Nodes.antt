@@ -8,7 +8,7 @@ use Rattle.hyperball.specs.Words.{delimiter_name, estimate_name, usual_options}
 use Rattle.hyperball.specs.declared.node_words.GatherWords.{GatherWords}
 use Rattle.hyperball.specs.declared.node_words.NodeWords.{NodeWords}
 
--- the options of a job have these values
+-- the options of a job have these values, but for the flag of large edge lists
 pub record AreJobOptionsOf (rows : List Row) (o : JobOptions) : Type 0 where
   pub log2m : IsNumberOr usual_options.log2m 8 rows (codes "log2m") o.log2m
   pub seed : IsNumberOr usual_options.seed 64 rows (codes "seed") o.seed
@@ -19,15 +19,17 @@ pub record AreJobOptionsOf (rows : List Row) (o : JobOptions) : Type 0 where
       rows (codes "delimiter") o.delimiter
   pub counted : IsFlag rows (codes "counted") o.counted
 
--- and the partition of a node, and whether it tells its progress
+-- and the flag, the partition of a node, and whether it tells its progress
 pub record AreNodeOptionsOf (rows : List Row) (w : NodeWords) : Type 0 where
   pub options : AreJobOptionsOf rows w.options
+  pub large : IsFlag rows (codes "large") w.options.large
   pub part : IsNumberOr 0 16 rows (codes "part") w.part
   pub progress : IsFlag rows (codes "progress") w.progress
 
--- and whether a gathering tells its progress
+-- and the flag, and whether a gathering tells its progress
 pub record AreGatherOptionsOf (rows : List Row) (w : GatherWords) : Type 0 where
   pub options : AreJobOptionsOf rows w.options
+  pub large : IsFlag rows (codes "large") w.options.large
   pub progress : IsFlag rows (codes "progress") w.progress
 
 -- the subcommand is node or gather, with these options or their defaults

@@ -9,7 +9,9 @@ use Rattle.workers.specs.declared.options.RunOptions.{RunOptions}
 -- what decides the report
 abbrev pub settings_in : Options → Settings
 settings_in o = record {
-  numbers = numbers_with (is_corrected o.estimate) o.log2m o.seed o.parts o.limit;
+  numbers = record (numbers_with (is_corrected o.estimate) o.log2m o.seed o.parts o.limit) {
+    large = o.large;
+  };
   delimiter = byte_of o.delimiter;
 }
 
@@ -22,10 +24,12 @@ options_of o orders = record {
   limit = o.limit;
   estimate = o.estimate;
   delimiter = o.delimiter;
+  large = o.large;
   replicas = o.replicas;
   entries = o.entries;
   keep = o.keep;
   patience = o.patience;
+  threads = o.threads;
   lose = orders.lose;
   restart = orders.restart;
 }

@@ -42,10 +42,12 @@ usual_options = record {
   limit = greatest_limit;
   estimate = Raw;
   delimiter = Tab;
+  large = false;
   replicas = 1;
   entries = 1048576;
   keep = 1;
   patience = 1000000;
+  threads = 0;
 }
 
 -- a text is this number of so many bits
@@ -94,10 +96,12 @@ pub record AreOptionsOf (rows : List Row) (w : RunWords) : Type 0 where
       rows (codes "estimate") w.options.estimate
   pub delimiter : IsNamedOr usual_options.delimiter delimiter_name
       rows (codes "delimiter") w.options.delimiter
+  pub large : IsFlag rows (codes "large") w.options.large
   pub replicas : IsNumberOr usual_options.replicas 8 rows (codes "replicas") w.options.replicas
   pub entries : IsNumberOr usual_options.entries 32 rows (codes "entries") w.options.entries
   pub keep : IsNumberOr usual_options.keep 32 rows (codes "keep") w.options.keep
   pub patience : IsNumberOr usual_options.patience 32 rows (codes "patience") w.options.patience
+  pub threads : IsNumberOr usual_options.threads 16 rows (codes "threads") w.options.threads
   pub counted : IsFlag rows (codes "counted") w.counted
 
 -- the subcommand is run, with these options or their defaults

@@ -12,6 +12,9 @@ use std::alloc::{AllocError, Global};
 const PROGRESS_HELP: &str =
     "Tell how it gets on, in lines on standard error: what was read, each superstep, close or checkpoint, the end";
 
+const LARGE_HELP: &str =
+    "Take up to 2^31 vertices and 2^32 - 1 records; without it more than 2^24 and 2^26 are too many";
+
 /// An argument of a command: an option whose value is read by a parser, or a flag, which has no value.
 #[derive(Clone, Copy)]
 pub struct Argument<'a> {
@@ -53,6 +56,13 @@ pub fn flag<'a>(name: &'a str, help: &'a str) -> Argument<'a>
         help,
         parser: None,
     }
+}
+
+/// The flag of large edge lists.
+pub fn large<'a>() -> Argument<'a>
+    ensures { rule_in result ≡ flag_rule (codes "large") }
+{
+    flag("large", LARGE_HELP)
 }
 
 /// The flag of progress.

@@ -52,9 +52,10 @@ pub fn job_arguments<'a>(
     ]
 }
 
-/// The options of a job. Values are as `clap` has checked them.
-pub fn job_options_of(matches: &ArgMatches<'_>) -> JobOptions
-    ensures { (o : Wanted) → AreJobOptionsOf (rows_of (found_of matches.now)) o → result ≡ o }
+/// The options of a job over a large edge list or a usual one. Values are as `clap` has checked them.
+pub fn job_options_of(matches: &ArgMatches<'_>, large: bool) -> JobOptions
+    ensures { (o : Wanted) → AreJobOptionsOf (rows_of (found_of matches.now)) o →
+        large ≡ o.large → result ≡ o }
 {
     JobOptions {
         log2m: matches.get_one("log2m").unwrap_or(USUAL.log2m),
@@ -63,6 +64,7 @@ pub fn job_options_of(matches: &ArgMatches<'_>) -> JobOptions
         limit: matches.get_one("limit").unwrap_or(USUAL.limit),
         estimate: estimate_of(matches.get_str("estimate")),
         delimiter: delimiter_of(matches.get_str("delimiter")),
+        large,
         counted: matches.get_flag("counted"),
     }
 }

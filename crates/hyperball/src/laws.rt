@@ -46,7 +46,7 @@ pub fn words_of_a_run()
         node_words }
     ensures board { IsRun
         (codes "hyperball" ∷ codes "run" ∷ codes "--entries" ∷ codes "64" ∷ codes "--patience=10"
-        ∷ codes "--restart" ∷ codes "0.0@2" ∷ [])
+        ∷ codes "--restart" ∷ codes "0.0@2" ∷ codes "--threads" ∷ codes "2" ∷ codes "--large" ∷ [])
         board_words }
 {}
 
@@ -56,8 +56,11 @@ pub fn words_of_no_run()
         (codes "hyperball" ∷ codes "run" ∷ codes "--help" ∷ [])
         (DisplayHelp ∷ []) }
     ensures unknown { HasFaults
-        (codes "hyperball" ∷ codes "run" ∷ codes "--threads" ∷ codes "2" ∷ [])
+        (codes "hyperball" ∷ codes "run" ∷ codes "--part" ∷ codes "0" ∷ [])
         (UnknownArgument ∷ []) }
+    ensures threads { HasFaults
+        (codes "hyperball" ∷ codes "run" ∷ codes "--threads" ∷ codes "1025" ∷ [])
+        (ValueValidation ∷ []) }
     ensures number { HasFaults
         (codes "hyperball" ∷ codes "run" ∷ codes "--log2m" ∷ codes "300" ∷ [])
         (ValueValidation ∷ []) }
@@ -108,11 +111,11 @@ pub fn words_of_a_node()
         usual_node }
     ensures third { IsNode
         (codes "hyperball" ∷ codes "node" ∷ codes "--log2m" ∷ codes "4" ∷ codes "--parts=3"
-        ∷ codes "--part" ∷ codes "2" ∷ codes "--counted" ∷ [])
+        ∷ codes "--part" ∷ codes "2" ∷ codes "--counted" ∷ codes "--large" ∷ [])
         third_node }
     ensures gather { IsGather
         (codes "hyperball" ∷ codes "gather" ∷ codes "--parts=3" ∷ codes "--estimate"
-        ∷ codes "corrected" ∷ codes "--delimiter=comma" ∷ [])
+        ∷ codes "corrected" ∷ codes "--delimiter=comma" ∷ codes "--large" ∷ [])
         gathered_job }
     ensures telling { IsNode
         (codes "hyperball" ∷ codes "node" ∷ codes "--progress" ∷ [])

@@ -8,9 +8,9 @@ ghost use Rattle.hyperball.specs.Words.{IsFlag};
 ghost use Rattle.hyperball.specs.declared.node_words.GatherWords.{GatherWords as Gathered};
 ghost use Rattle.hyperball.specs.declared.node_words.NodeWords.{NodeWords as Noded};
 
-use crate::arguments::{Texts, option, progress, subcommand_of};
+use crate::arguments::{Texts, large, option, progress, subcommand_of};
 use crate::job_words::{job_arguments, job_options_of};
-use crate::words::wants_progress;
+use crate::words::{wants_large, wants_progress};
 use clap::builder::ValueParser;
 use clap::{ArgMatches, Command, value_parser};
 use node::job::JobOptions;
@@ -59,7 +59,9 @@ Where the input ends the node ends. When all are finished, 'hyperball gather' wr
 Memory and accuracy:
   A node keeps the counters of its own vertices alone, 2 * 2^log2m bytes each. But it reads the
   whole edge list, and keeps that, packed, with all labels. What reading takes, how near figures
-  are to the true ones and what they mean is told by 'hyperball run --help'.
+  are to the true ones and what they mean is told by 'hyperball run --help'. More than 2^24
+  vertices or 2^26 records are too many, unless --large is said: it lifts the limits to 2^31 and
+  2^32 - 1. It makes no other job: batches and checkpoints are the same with it.
 
 Exit status:
   0  all commands were answered, or help was asked for
@@ -86,7 +88,8 @@ const GATHER_AFTER: &str = "Example, of two partitions whose nodes gave 0.hbck a
 Memory:
   It keeps the counters of all vertices, 2 * 2^log2m bytes each, and the edge list as a node does.
   Where they do not fit into one machine, totals and figures of each node tell its own part of the
-  report ('hyperball node --help').
+  report ('hyperball node --help'). More than 2^24 vertices or 2^26 records are too many, unless
+  --large is said: it lifts the limits to 2^31 and 2^32 - 1.
 
 Exit status:
   0  the report was written, or help was asked for
@@ -140,7 +143,7 @@ pub fn node_command<'a>(
     };
     let job = job_arguments(NODE_PARTS_HELP, estimates, delimiters);
     let part = option("part", PART_HELP, value_parser!(u16));
-    subcommand_of(alloc, &texts, &job, &[part, progress()])
+    subcommand_of(alloc, &texts, &job, &[part, large(), progress()])
 }
 
 /// The subcommand gather, with parsers of estimates and of delimiters.
@@ -159,7 +162,7 @@ pub fn gather_command<'a>(
         after_help: GATHER_AFTER,
     };
     let job = job_arguments(GATHER_PARTS_HELP, estimates, delimiters);
-    subcommand_of(alloc, &texts, &job, &[progress()])
+    subcommand_of(alloc, &texts, &job, &[large(), progress()])
 }
 
 /// What the words of a node say. Values are as `clap` has checked them.
@@ -170,7 +173,7 @@ pub fn node_words_of(matches: &ArgMatches<'_>) -> NodeWords
         result.progress ≡ b }
 {
     NodeWords {
-        options: job_options_of(matches),
+        options: job_options_of(matches, wants_large(matches)),
         part: matches.get_one("part").unwrap_or(0),
         progress: wants_progress(matches),
     }
@@ -183,7 +186,7 @@ pub fn gather_words_of(matches: &ArgMatches<'_>) -> GatherWords
     ensures progress { (b : Bool) → IsFlag (rows_of (found_of matches.now)) (codes "progress") b →
         result.progress ≡ b }
 {
-    let options = job_options_of(matches);
+    let options = job_options_of(matches, wants_large(matches));
     let progress = wants_progress(matches);
     GatherWords { options, progress }
 }

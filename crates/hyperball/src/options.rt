@@ -24,6 +24,8 @@ pub struct Options {
     pub estimate: Estimate,
     /// What stands between the two fields of a line.
     pub delimiter: Delimiter,
+    /// Whether a large edge list is taken, of up to 2^31 vertices and 2^32 - 1 records.
+    pub large: bool,
     /// How many replicas each partition has.
     pub replicas: u8,
     /// How many entries the history of the run's board may have.
@@ -32,10 +34,12 @@ pub struct Options {
     pub keep: u32,
     /// After so many idle turns in succession a replica gives up.
     pub patience: u32,
+    /// How many threads large supersteps use, of all replicas together; 0: as many as there are processors.
+    pub threads: u16,
 }
 
 /// The options that are not given: counters of 256 bytes, seed 0, one partition of one replica, the greatest limit, raw
-/// estimates, tabs, and a snapshot at each superstep.
+/// estimates, tabs, a snapshot at each superstep, and as many threads as there are processors.
 pub const USUAL: Options = Options {
     log2m: 8,
     seed: 0,
@@ -43,10 +47,12 @@ pub const USUAL: Options = Options {
     limit: GREATEST_LIMIT,
     estimate: Estimate::Raw,
     delimiter: Delimiter::Tab,
+    large: false,
     replicas: 1,
     entries: 1_048_576,
     keep: 1,
     patience: 1_000_000,
+    threads: 0,
 };
 
 /// Which replicas are lost, and which start anew, each at a superstep.
@@ -70,10 +76,12 @@ pub fn run_options(options: &Options, orders: Orders) -> RunOptions
         limit: options.limit,
         estimate: options.estimate,
         delimiter: options.delimiter,
+        large: options.large,
         replicas: options.replicas,
         entries: options.entries,
         keep: options.keep,
         patience: options.patience,
+        threads: options.threads,
         lose: orders.lose,
         restart: orders.restart,
     }

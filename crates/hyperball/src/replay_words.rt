@@ -103,7 +103,7 @@ pub fn replay_words_of(matches: &ArgMatches<'_>) -> ReplayWords
     ensures progress { (b : Bool) → IsFlag (rows_of (found_of matches.now)) (codes "progress") b →
         result.progress ≡ b }
 {
-    let job = job_options_of(matches);
+    let job = job_options_of(matches, false);
     let options = ReplayOptions {
         log2m: job.log2m,
         seed: job.seed,

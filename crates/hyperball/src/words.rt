@@ -8,7 +8,7 @@ ghost use Rattle.clap.specs.declared.error.kind.ErrorKind.{ErrorKind as Kind};
 ghost use Rattle.hyperball.specs.CommandLine.{IsApp, Parsers, TakeNames, TakesNames};
 ghost use Rattle.hyperball.specs.CommandLine.{delimiter_names, estimate_names, hyperball_app};
 ghost use Rattle.hyperball.specs.CommandLine.{new_hyperball, run_app, with_arguments, with_nodes};
-ghost use Rattle.hyperball.specs.CommandLine.{with_orders, with_progress};
+ghost use Rattle.hyperball.specs.CommandLine.{with_large, with_orders, with_progress, with_threads};
 ghost use Rattle.hyperball.specs.declared.words.RunWords.{RunWords as Run};
 ghost use Rattle.hyperball.specs.Replaying.{AsksReplay, IsReplay, IsReplayOf, NamesReplay, SaysRun};
 ghost use Rattle.hyperball.specs.declared.replay_words.ReplayWords.{ReplayWords as Replayed};
@@ -27,7 +27,7 @@ ghost use Rattle.ball_model.specs.declared.plan.Estimate.TheVariants.{Raw};
 ghost use Rattle.edgelist.specs.declared.read.Delimiter.{Delimiter as Between};
 ghost use Rattle.edgelist.specs.declared.read.Delimiter.TheVariants.{Tab};
 
-use crate::arguments::{Argument, Texts, option, progress, subcommand_of};
+use crate::arguments::{Argument, Texts, large, option, progress, subcommand_of};
 use crate::job_words::{job_arguments, job_options_of};
 use crate::node_words::{
     GatherWords, NodeWords, gather_command, gather_words_of, node_command, node_words_of,
@@ -79,7 +79,20 @@ Memory and accuracy:
   near the true ones, and raw for those that HyperLogLog's formula gives.
 
 Cores:
-  A run has a thread for each replica of each partition. The figures of the report are made by all cores.
+  One partition uses all cores: where many vertices changed, a superstep is shared out to as many
+  threads as there are cores, or as --threads says: 2 on a machine that others use, say. Partitions
+  and replicas are for workers that may be lost, and for several machines ('hyperball node'). Each
+  replica of each partition has a thread of its own, and an equal share of the threads. The last
+  figures take all cores, whatever --threads says. The report is the same for all of these.
+
+Large edge lists:
+  More than 2^24 vertices or 2^26 records are too many, unless --large is said: it lifts the limits
+  to 2^31 and 2^32 - 1. What is read without it has the same report with it. With --counted the
+  whole input has at most 64 MiB, with --large too.
+
+Refusals:
+  What is wrong with the edge list is told first: --log2m, --parts and --limit that are out of range
+  are refused only once all of it was read.
 
 Figures:
   Harmonic centrality 0.000000 with Lin's index 1.000000: nobody else that counts gets there.
@@ -94,7 +107,7 @@ Exit status:
   2  words that are no command";
 
 const PARTS_HELP: &str =
-    "Partitions, 1 to 64, a thread for each replica. More cores: as many as cores; same report [default: 1]";
+    "Partitions, 1 to 64, each with replicas of its own. One uses all cores; same report [default: 1]";
 
 const REPLICAS_HELP: &str =
     "Replicas of each partition, 1 to 4: with 2 a worker may be lost, and not the run [default: 1]";
@@ -113,6 +126,9 @@ const LOSE_HELP: &str =
 
 const RESTART_HELP: &str =
     "To try it, workers that start anew from what is kept, in the form of --lose";
+
+const THREADS_HELP: &str =
+    "Threads that work at once in large supersteps, 1 to 1024; 0: as many as there are cores [default: 0]";
 
 /// What the words of a run say.
 #[derive(Clone, Copy, PartialEq, Eq)]
@@ -138,17 +154,19 @@ fn delimiters<'a>() -> ValueParser<'a>
 }
 
 // The arguments of run behind those of its job.
-fn run_arguments<'a>() -> [Argument<'a>; 7]
+fn run_arguments<'a>() -> [Argument<'a>; 9]
     ensures { (app : App) → with_arguments result app ≡
-        with_progress (with_orders (with_nodes app)) }
+        with_progress (with_large (with_orders (with_threads (with_nodes app)))) }
 {
     [
         option("replicas", REPLICAS_HELP, value_parser!(u8)),
         option("entries", ENTRIES_HELP, value_parser!(u32)),
         option("keep", KEEP_HELP, value_parser!(u32)),
         option("patience", PATIENCE_HELP, value_parser!(u32)),
+        option("threads", THREADS_HELP, ValueParser::Signed(0, 1024)),
         option("lose", LOSE_HELP, ValueParser::String),
         option("restart", RESTART_HELP, ValueParser::String),
+        large(),
         progress(),
     ]
 }
@@ -244,7 +262,7 @@ pub fn estimate_of(name: Option<&str>) -> Estimate
 fn options_of(matches: &ArgMatches<'_>) -> RunWords
     ensures { (w : Run) → AreOptionsOf (rows_of (found_of matches.now)) w → result ≡ w }
 {
-    let job = job_options_of(matches);
+    let job = job_options_of(matches, wants_large(matches));
     let options = Options {
         log2m: job.log2m,
         seed: job.seed,
@@ -252,15 +270,24 @@ fn options_of(matches: &ArgMatches<'_>) -> RunWords
         limit: job.limit,
         estimate: job.estimate,
         delimiter: job.delimiter,
+        large: job.large,
         replicas: matches.get_one("replicas").unwrap_or(USUAL.replicas),
         entries: matches.get_one("entries").unwrap_or(USUAL.entries),
         keep: matches.get_one("keep").unwrap_or(USUAL.keep),
         patience: matches.get_one("patience").unwrap_or(USUAL.patience),
+        threads: matches.get_one("threads").unwrap_or(USUAL.threads),
     };
     RunWords {
         options,
         counted: job.counted,
     }
+}
+
+/// Whether a large edge list is taken.
+pub fn wants_large(matches: &ArgMatches<'_>) -> bool
+    ensures { (b : Bool) → IsFlag (rows_of (found_of matches.now)) (codes "large") b → result ≡ b }
+{
+    matches.get_flag("large")
 }
 
 /// Whether progress is to be told.

@@ -7,17 +7,16 @@ use Rattle.std.proofs.Common.{inl, inr}
 use Rattle.node.specs.declared.error.ServeNodeError.{ServeNodeError}
 use Rattle.node.specs.declared.error.ServeNodeError.TheVariants as nonode
 use Rattle.ball_model.specs.declared.plan.PlanError.TheVariants as fault
-use Rattle.ball_model.specs.Input.{IsPlain, Network, Refusal}
+use Rattle.ball_model.specs.Input.{IsPlain, Limits, Network, Refusal}
 use Rattle.ball_model.specs.Counting.{counted_of}
-use Rattle.ball_model.specs.PlanValue.{PlanValue, greatest_limit, greatest_log2m, least_log2m, most_parts, most_vertices, plan_of}
-use Rattle.ball_model.specs.RunText.{Numbers, Settings, plan_over}
+use Rattle.ball_model.specs.PlanValue.{PlanValue, greatest_limit, greatest_log2m, least_log2m, most_parts, plan_within}
+use Rattle.ball_model.specs.RunText.{Numbers, Settings, plan_asked, plan_over, run_limits}
 use Rattle.edgelist.specs.Reading.{Refuses}
 use Rattle.edgelist.specs.declared.read.EdgeError.{EdgeError}
 use Rattle.edgelist.specs.declared.read.EdgeError.TheVariants as unread
-use Rattle.edgelist.specs.Given.{IsGiven}
+use Rattle.edgelist.specs.Given.{IsGivenUnder}
 use Rattle.edgelist.specs.declared.pieces.EdgeReader.{EdgeReader}
 use Rattle.edgelist.specs.declared.read.Delimiter.{Delimiter}
-use Rattle.edgelist.specs.declared.read.EdgeLimits.{EdgeLimits}
 use Rattle.node.specs.declared.error.JobInputError.{JobInputError}
 use Rattle.node.specs.declared.error.JobInputError.TheVariants as nojob
 use Rattle.node.specs.Job.{CountsSome, GivesAll, GivesEdges, GivesSection, IsJobRead, IsPlanned}
@@ -28,14 +27,14 @@ use Rattle.node.proofs.SectionLemmas.{FrontGoesOn, Passed, passed_end, passed_mo
 
 -- ---- the edge list
 -- so many bytes were given
-pub record GivesSoFar (limits : EdgeLimits) (delimiter : Delimiter) (count : ℕ) (begins : Bool) (left left' : Option (List ℕ)) (edges : EdgeReader) : Type 0 where
+pub record GivesSoFar (limits : Limits) (delimiter : Delimiter) (count : ℕ) (begins : Bool) (left left' : Option (List ℕ)) (edges : EdgeReader) : Type 0 where
   pub front : List ℕ
   pub long : length front ≡ count
-  pub given : IsGiven limits delimiter front edges
+  pub given : IsGivenUnder limits delimiter front edges
   pub passed : Passed front begins left left'
 
-pub gives_start : (limits : EdgeLimits) (delimiter : Delimiter) (begins : Bool) (xs : List ℕ) (left : Option (List ℕ)) (edges : EdgeReader) → begins ≡ true → xs ≡ [] →
-    IsGiven limits delimiter [] edges → GivesSoFar limits delimiter 0 begins left (prepend_known xs left) edges
+pub gives_start : (limits : Limits) (delimiter : Delimiter) (begins : Bool) (xs : List ℕ) (left : Option (List ℕ)) (edges : EdgeReader) → begins ≡ true → xs ≡ [] →
+    IsGivenUnder limits delimiter [] edges → GivesSoFar limits delimiter 0 begins left (prepend_known xs left) edges
 gives_start limits delimiter begins xs left edges line none given = record {
   front = [];
   long = refl;
@@ -43,8 +42,8 @@ gives_start limits delimiter begins xs left edges line none given = record {
   passed = passed_start begins xs left line none;
 }
 
-pub gives_more : (limits : EdgeLimits) (delimiter : Delimiter) (n m : ℕ) (begins next : Bool) (c : ℕ) (x y z : Option (List ℕ)) (old new : EdgeReader) → next ≡ (c == 10) → m ≡ n + 1 →
-    GivesSoFar limits delimiter n begins x y old → Gives begins c y z → ((text : List ℕ) → IsGiven limits delimiter text old → IsGiven limits delimiter (text ++ c ∷ []) new) →
+pub gives_more : (limits : Limits) (delimiter : Delimiter) (n m : ℕ) (begins next : Bool) (c : ℕ) (x y z : Option (List ℕ)) (old new : EdgeReader) → next ≡ (c == 10) → m ≡ n + 1 →
+    GivesSoFar limits delimiter n begins x y old → Gives begins c y z → ((text : List ℕ) → IsGivenUnder limits delimiter text old → IsGivenUnder limits delimiter (text ++ c ∷ []) new) →
     GivesSoFar limits delimiter m next x z new
 gives_more limits delimiter n m begins next c x y z old new same more so one add = record {
   front = so.front ++ c ∷ [];
@@ -53,7 +52,7 @@ gives_more limits delimiter n m begins next c x y z old new same more so one add
   passed = passed_more so.front (so.front ++ c ∷ []) begins next c x y z same refl so.passed one;
 }
 
-pub gives_end : (limits : EdgeLimits) (delimiter : Delimiter) (n : ℕ) (begins : Bool) (x y z : Option (List ℕ)) (edges : EdgeReader) → GivesSoFar limits delimiter n begins x y edges → EndsAtMark begins y z →
+pub gives_end : (limits : Limits) (delimiter : Delimiter) (n : ℕ) (begins : Bool) (x y z : Option (List ℕ)) (edges : EdgeReader) → GivesSoFar limits delimiter n begins x y edges → EndsAtMark begins y z →
     GivesSection limits delimiter x z edges
 gives_end limits delimiter n begins x y z edges so ends = record {
   front = so.front;
@@ -77,13 +76,13 @@ plan_test p q false false true d is = absurd (cc)
 plan_test p q false false false true is = absurd (cc)
 plan_test p q false false false false is = cc
 
-plan_same : (p q : PlanValue) → plan_of p ≡ Ok q → q ≡ p
-plan_same p q is =
+plan_same : (most : ℕ) (p q : PlanValue) → plan_within most p ≡ Ok q → q ≡ p
+plan_same most p q is =
     plan_test p q (nat_lt p.log2m least_log2m || nat_lt greatest_log2m p.log2m) (nat_lt p.parts 1 || nat_lt most_parts p.parts)
-    (nat_lt p.limit 1 || nat_lt greatest_limit p.limit) (nat_lt most_vertices p.vertices) is
+    (nat_lt p.limit 1 || nat_lt greatest_limit p.limit) (nat_lt most p.vertices) is
 
-pub planned : (n : Numbers) (network : Network) (plan : PlanValue) → Ok plan ≡ plan_of (plan_over n network.graph) → IsPlanned n network plan
-planned n network plan is = record { plan_is = plan_same (plan_over n network.graph) plan (sym is); planned = sym is }
+pub planned : (n : Numbers) (network : Network) (plan : PlanValue) → Ok plan ≡ plan_asked n network.graph → IsPlanned n network plan
+planned n network plan is = record { plan_is = plan_same (run_limits n.large).vertices (plan_over n network.graph) plan (sym is); planned = sym is }
 
 -- ---- why there is no job
 -- what stands before the mark begins so, and is refused whatever follows
@@ -95,9 +94,9 @@ refused_front says front c (Some text) e some goes tells = record {
   refuses = subst (λ (l : List ℕ). IsPlain l → Refuses (says l) e) (sym goes.before_is) (tells goes.more);
 }
 
-pub refused_in : (says : List ℕ → Result Network Refusal) (limits : EdgeLimits) (delimiter : Delimiter) (n : ℕ) (begins : Bool) (c : ℕ) (x y z : Option (List ℕ)) (old : EdgeReader) (e : EdgeError) → e ≢ unread.Read →
+pub refused_in : (says : List ℕ → Result Network Refusal) (limits : Limits) (delimiter : Delimiter) (n : ℕ) (begins : Bool) (c : ℕ) (x y z : Option (List ℕ)) (old : EdgeReader) (e : EdgeError) → e ≢ unread.Read →
     GivesSoFar limits delimiter n begins x y old → Gives begins c y z →
-    ((text more : List ℕ) → IsGiven limits delimiter text old → IsPlain (text ++ c ∷ more) → Refuses (says (text ++ c ∷ more)) e) → IsNoNetwork says x (nojob.Edges e)
+    ((text more : List ℕ) → IsGivenUnder limits delimiter text old → IsPlain (text ++ c ∷ more) → Refuses (says (text ++ c ∷ more)) e) → IsNoNetwork says x (nojob.Edges e)
 refused_in says limits delimiter n begins c x y z old e some so one tells =
     refused_front says so.front c x e some (passed_next so.front begins c x y z so.passed one) (λ more. tells so.front more so.given)
 
@@ -111,7 +110,7 @@ refused_whole says front (Some text) z e some section tells = record {
 }
 
 -- all was given, where there is no mark
-pub gives_all : (limits : EdgeLimits) (delimiter : Delimiter) (n : ℕ) (begins : Bool) (x y : Option (List ℕ)) (edges : EdgeReader) → GivesSoFar limits delimiter n begins x y edges → IsAtEnd y → GivesAll limits delimiter x edges
+pub gives_all : (limits : Limits) (delimiter : Delimiter) (n : ℕ) (begins : Bool) (x y : Option (List ℕ)) (edges : EdgeReader) → GivesSoFar limits delimiter n begins x y edges → IsAtEnd y → GivesAll limits delimiter x edges
 gives_all limits delimiter n begins x y edges so end = record {
   front = so.front;
   given = so.given;
@@ -120,7 +119,7 @@ gives_all limits delimiter n begins x y edges so end = record {
 }
 
 -- and it is refused
-refused_all : (says : List ℕ → Result Network Refusal) (limits : EdgeLimits) (delimiter : Delimiter) (x : Option (List ℕ)) (edges : EdgeReader) (e : EdgeError) → e ≢ unread.Read → (s : GivesAll limits delimiter x edges) →
+refused_all : (says : List ℕ → Result Network Refusal) (limits : Limits) (delimiter : Delimiter) (x : Option (List ℕ)) (edges : EdgeReader) (e : EdgeError) → e ≢ unread.Read → (s : GivesAll limits delimiter x edges) →
     (IsPlain s.front → Refuses (says s.front) e) → IsNoNetwork says x (nojob.Edges e)
 refused_all says limits delimiter None edges e some s tells = record { read = some; refuses = tt }
 refused_all says limits delimiter (Some text) edges e some s tells = record {
@@ -128,13 +127,13 @@ refused_all says limits delimiter (Some text) edges e some s tells = record {
   refuses = subst (λ (l : List ℕ). IsPlain l → Refuses (says l) e) (sym (ap (first_or text) s.none ∙ s.whole)) tells;
 }
 
-pub refused_edges : (says : List ℕ → Result Network Refusal) (limits : EdgeLimits) (delimiter : Delimiter) (x z : Option (List ℕ)) (edges : EdgeReader) (marked : Bool) (e : EdgeError) → e ≢ unread.Read →
-    GivesEdges limits delimiter x z edges marked → ((text : List ℕ) → IsGiven limits delimiter text edges → IsPlain text → Refuses (says text) e) → IsNoNetwork says x (nojob.Edges e)
+pub refused_edges : (says : List ℕ → Result Network Refusal) (limits : Limits) (delimiter : Delimiter) (x z : Option (List ℕ)) (edges : EdgeReader) (marked : Bool) (e : EdgeError) → e ≢ unread.Read →
+    GivesEdges limits delimiter x z edges marked → ((text : List ℕ) → IsGivenUnder limits delimiter text edges → IsPlain text → Refuses (says text) e) → IsNoNetwork says x (nojob.Edges e)
 refused_edges says limits delimiter x z edges true e some s tells = refused_whole says s.front x z e some s.section (tells s.front s.given)
 refused_edges says limits delimiter x z edges false e some s tells = refused_all says limits delimiter x edges e some s (tells s.front s.given)
 
 -- or it says a network, and only the mark is missing
-pub lacks_mark : (says : List ℕ → Result Network Refusal) (limits : EdgeLimits) (delimiter : Delimiter) (x : Option (List ℕ)) (edges : EdgeReader) (n : Network) → (s : GivesAll limits delimiter x edges) →
+pub lacks_mark : (says : List ℕ → Result Network Refusal) (limits : Limits) (delimiter : Delimiter) (x : Option (List ℕ)) (edges : EdgeReader) (n : Network) → (s : GivesAll limits delimiter x edges) →
     (IsPlain s.front → says s.front ≡ Ok n) → LacksMark says x
 lacks_mark says limits delimiter None edges n s tells = record { none = tt; fine = tt }
 lacks_mark says limits delimiter (Some text) edges n s tells = record {
@@ -142,7 +141,7 @@ lacks_mark says limits delimiter (Some text) edges n s tells = record {
   fine = subst (λ (l : List ℕ). IsPlain l → IsOk (says l)) (sym s.whole) (λ plain. ap is_ok (tells plain));
 }
 
-pub too_many : (limits : EdgeLimits) (delimiter : Delimiter) (n : ℕ) (begins : Bool) (x y : Option (List ℕ)) (edges : EdgeReader) → GivesSoFar limits delimiter n begins x y edges → IfSome x (λ text. n ≤ length text)
+pub too_many : (limits : Limits) (delimiter : Delimiter) (n : ℕ) (begins : Bool) (x y : Option (List ℕ)) (edges : EdgeReader) → GivesSoFar limits delimiter n begins x y edges → IfSome x (λ text. n ≤ length text)
 too_many limits delimiter n begins None y edges so = tt
 too_many limits delimiter n begins (Some text) y edges so =
     let p = so.passed in

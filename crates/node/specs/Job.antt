@@ -1,14 +1,13 @@
 -- The job that is asked for, over what is read of an input up to the marks.
 use Rattle.std.specs.Prelude.{◌≡◌, ℕ, ◌≤◌, Bool, true, false, List, length, Option, None, Some, is_some, IfSome, Ok}
-use Rattle.ball_model.specs.Input.{IsPlain, Network, records}
-use Rattle.ball_model.specs.PlanValue.{PlanValue, plan_of}
-use Rattle.ball_model.specs.RunText.{Numbers, Settings, counted_in, network_in, plan_over}
+use Rattle.ball_model.specs.Input.{IsPlain, Limits, Network, records}
+use Rattle.ball_model.specs.PlanValue.{PlanValue}
+use Rattle.ball_model.specs.RunText.{Numbers, Settings, counted_in, network_in, plan_asked, plan_over}
 use Rattle.edgelist.specs.Planning.{is_corrected, numbers_with}
-use Rattle.edgelist.specs.Given.{IsGiven}
+use Rattle.edgelist.specs.Given.{IsGivenUnder}
 use Rattle.edgelist.specs.Reading.{byte_of}
 use Rattle.edgelist.specs.declared.pieces.EdgeReader.{EdgeReader}
 use Rattle.edgelist.specs.declared.read.Delimiter.{Delimiter}
-use Rattle.edgelist.specs.declared.read.EdgeLimits.{EdgeLimits}
 use Rattle.node.specs.declared.job.JobOptions.{JobOptions}
 use Rattle.node.specs.declared.limits.TheConstants.{MOST_BYTES}
 use Rattle.node.specs.Section.{HasNoMark, ReadsSection}
@@ -16,7 +15,9 @@ use Rattle.node.specs.Section.{HasNoMark, ReadsSection}
 -- ---- what is asked
 
 abbrev pub job_numbers_of : JobOptions → Numbers
-job_numbers_of o = numbers_with (is_corrected o.estimate) o.log2m o.seed o.parts o.limit
+job_numbers_of o =
+    record (numbers_with (is_corrected o.estimate) o.log2m o.seed o.parts o.limit)
+    { large = o.large }
 
 abbrev pub job_settings_of : JobOptions → Settings
 job_settings_of o = record { numbers = job_numbers_of o; delimiter = byte_of o.delimiter }
@@ -24,22 +25,22 @@ job_settings_of o = record { numbers = job_numbers_of o; delimiter = byte_of o.d
 -- ---- what is read
 
 -- a section was read and given to a reader of edges
-pub record GivesSection (limits : EdgeLimits) (delimiter : Delimiter)
+pub record GivesSection (limits : Limits) (delimiter : Delimiter)
     (left left' : Option (List ℕ)) (edges : EdgeReader) : Type 0 where
   pub front : List ℕ
-  pub given : IsGiven limits delimiter front edges
+  pub given : IsGivenUnder limits delimiter front edges
   pub section : ReadsSection front left left'
 
 -- all was read, where no mark is, and given to a reader of edges
-pub record GivesAll (limits : EdgeLimits) (delimiter : Delimiter) (left : Option (List ℕ))
+pub record GivesAll (limits : Limits) (delimiter : Delimiter) (left : Option (List ℕ))
     (edges : EdgeReader) : Type 0 where
   pub front : List ℕ
-  pub given : IsGiven limits delimiter front edges
+  pub given : IsGivenUnder limits delimiter front edges
   pub none : HasNoMark left
   pub whole : IfSome left (λ text. text ≡ front)
 
 -- a section was given, up to a mark or up to the end
-abbrev pub GivesEdges : EdgeLimits → Delimiter → Option (List ℕ) → Option (List ℕ) → EdgeReader →
+abbrev pub GivesEdges : Limits → Delimiter → Option (List ℕ) → Option (List ℕ) → EdgeReader →
     Bool → Type 0
 GivesEdges limits delimiter left left' edges true = GivesSection limits delimiter left left' edges
 GivesEdges limits delimiter left left' edges false = GivesAll limits delimiter left edges
@@ -76,7 +77,7 @@ pub record CountsSome (s : Settings) (counted : Bool) (left left' : Option (List
 -- there is such a plan over the network
 pub record IsPlanned (n : Numbers) (network : Network) (plan : PlanValue) : Type 0 where
   pub plan_is : plan ≡ plan_over n network.graph
-  pub planned : plan_of (plan_over n network.graph) ≡ Ok plan
+  pub planned : plan_asked n network.graph ≡ Ok plan
 
 -- the job of the input: the network that the edge list and the list of counted vertices say, and its plan; what follows
 -- the mark behind them is left

@@ -2,8 +2,8 @@
 use Rattle.std.specs.Prelude.{◌≡◌, ◌≢◌, ⊤, ◌⊎◌, ℕ, ◌-◌, ◌^◌, ◌<◌, ◌≤◌, Bool, true, List, length, Option, Result, Err, IfSome, IsOk}
 use Rattle.ball_model.specs.Counting.{counted_of}
 use Rattle.ball_model.specs.Input.{IsPlain, Network, Refusal}
-use Rattle.ball_model.specs.PlanValue.{PlanValue, plan_of}
-use Rattle.ball_model.specs.RunText.{Settings, network_in, plan_over}
+use Rattle.ball_model.specs.PlanValue.{PlanValue}
+use Rattle.ball_model.specs.RunText.{Settings, network_in, plan_asked}
 use Rattle.ball_model.specs.declared.plan.PlanError.{PlanError}
 use Rattle.edgelist.specs.Counting.{RefusesList}
 use Rattle.edgelist.specs.Reading.{Refuses}
@@ -85,7 +85,7 @@ pub record HasNoPlan (s : Settings) (counted : Bool) (left left' : Option (List 
   pub mid : Option (List ℕ)
   pub edges : SaysNetwork s left mid all
   pub list : CountsSome s counted mid left' all network
-  pub refused : plan_of (plan_over s.numbers network.graph) ≡ Err e
+  pub refused : plan_asked s.numbers network.graph ≡ Err e
 
 -- ---- the job
 -- the input says no job, for this fault

@@ -1,15 +1,15 @@
 //! A job, read of an input up to a mark.
 
 ghost use Rattle.std.specs.Prelude.{◌≡◌, ◌≢◌, ◌<◌, ◌≤◌, [], Err, IfErr, IfOk, IsErr, OnOk, length};
-ghost use Rattle.std.specs.Prelude.{true};
+ghost use Rattle.std.specs.Prelude.{Ok, true};
 ghost use Rattle.std.specs.Arc.{arc_value};
+ghost use Rattle.ball_model.specs.Input.{Limits};
 ghost use Rattle.ball_model.specs.Job.{IsJob, job_of, part_of};
-ghost use Rattle.ball_model.specs.PlanValue.{plan_of};
-ghost use Rattle.ball_model.specs.RunText.{network_in, plan_over};
+ghost use Rattle.ball_model.specs.RunText.{network_in, plan_asked, run_limits};
 ghost use Rattle.ball_model.specs.Streams.{Rises};
-ghost use Rattle.edgelist.specs.Given.{IsGiven};
-ghost use Rattle.edgelist.specs.declared.read.TheConstants.{LIMITS};
-ghost use Rattle.edgelist.specs.Reading.{meaning_of};
+ghost use Rattle.edgelist.specs.Given.{IsGivenUnder};
+ghost use Rattle.edgelist.specs.Planning.{signed};
+ghost use Rattle.edgelist.specs.Reading.{meaning_under};
 ghost use Rattle.node.specs.Job.{CountsSome, GivesEdges, HasRecords, IsJobRead, SaysNetwork};
 ghost use Rattle.node.specs.Job.{job_numbers_of, job_settings_of};
 ghost use Rattle.node.specs.NoJob.{IsNoJob, IsNoNetwork, IsUncounted, IsUnlisted};
@@ -20,7 +20,7 @@ use crate::error::JobInputError;
 use crate::limits::MOST_BYTES;
 use crate::section::{Cut, SectionStep, next_step};
 use ball_model::{CountedRead, Estimate, Plan, PlanError};
-use edgelist::{Delimiter, EdgeList, EdgeReader, Graph, LIMITS, Part};
+use edgelist::{Delimiter, EdgeError, EdgeList, EdgeReader, Graph, LARGE_LIMITS, LIMITS, Part};
 use std::alloc::{AllocError, Global};
 use std::hash::RandomState;
 use std::sync::Arc;
@@ -40,8 +40,26 @@ pub struct JobOptions {
     pub estimate: Estimate,
     /// What stands between the two fields of a line of the edge list.
     pub delimiter: Delimiter,
+    /// Whether up to 2^31 vertices and 2^32 - 1 records are taken, in place of 2^24 and 2^26.
+    pub large: bool,
     /// Whether a list of counted vertices, and a line of %%, stand behind the edge list.
     pub counted: bool,
+}
+
+// A reader of edges that was given nothing yet; one of a large edge list only where that is asked for.
+fn reader_for(
+    alloc: Global,
+    state: RandomState,
+    options: &JobOptions,
+) -> Result<EdgeReader, EdgeError>
+    ensures ok { IfOk result
+        (IsGivenUnder (run_limits options.now.large) options.now.delimiter []) }
+    ensures memory { IfErr result (λ e. e ≡ EdgeError.Memory) }
+{
+    if options.large {
+        return EdgeReader::large(alloc, state, options.delimiter, LARGE_LIMITS);
+    }
+    EdgeReader::new(alloc, state, options.delimiter, LIMITS)
 }
 
 // Gives a reader of edges, which was given nothing yet, the bytes of a section, and tells whether a mark ends it.
@@ -50,11 +68,13 @@ fn give_section<R: CountedRead>(
     reader: &mut R,
     edges: &mut EdgeReader,
 ) -> Result<bool, JobInputError>
-    ensures given { (delimiter : Delimiter) → IsGiven LIMITS delimiter [] edges.old →
-        IfOk result (GivesEdges LIMITS delimiter
+    ensures given { (limits : Limits) (delimiter : Delimiter) →
+        IsGivenUnder limits delimiter [] edges.old →
+        IfOk result (GivesEdges limits delimiter
         (R.remaining reader.old) (R.remaining reader.new) edges.new) }
-    ensures refused { (delimiter : Delimiter) → IsGiven LIMITS delimiter [] edges.old →
-        IfErr result (IsNoNetwork (meaning_of LIMITS delimiter) (R.remaining reader.old)) }
+    ensures refused { (limits : Limits) (delimiter : Delimiter) →
+        IsGivenUnder limits delimiter [] edges.old →
+        IfErr result (IsNoNetwork (meaning_under limits delimiter) (R.remaining reader.old)) }
     ensures failed { FailsAs R.failed_calls reader.old reader.new result (Err JobInputError.Read) }
 {
     let mut cut = Cut::start();
@@ -84,7 +104,7 @@ fn read_edge_section<R: CountedRead>(
         (R.remaining reader.old)) }
     ensures failed { FailsAs R.failed_calls reader.old reader.new result (Err JobInputError.Read) }
 {
-    let mut edges = EdgeReader::new(alloc, state, options.delimiter, LIMITS)?;
+    let mut edges = reader_for(alloc, state, options)?;
     let marked = give_section(alloc, reader, &mut edges)?;
     let read = edges.finish(alloc)?;
     if !marked {
@@ -142,10 +162,14 @@ fn count_listed<R: CountedRead>(
     Ok(())
 }
 
-// The plan over a graph, or the first fault of the options.
-fn plan_for(graph: &Graph, options: &JobOptions) -> Result<Plan, PlanError>
-    ensures value { result ≡ plan_of (plan_over (job_numbers_of options.now) graph.now.graph) }
-    ensures job { IfOk result (λ plan. IsJob (job_of graph.now.graph plan)) }
+// The plan over a graph but for its digest, or the first fault of the options.
+fn bare_plan_for(graph: &Graph, options: &JobOptions) -> Result<Plan, PlanError>
+    ensures ok { IfOk result (λ bare. Ok (signed graph.now.graph bare) ≡
+        plan_asked (job_numbers_of options.now) graph.now.graph) }
+    ensures refused { IfErr result (λ fault. Err fault ≡
+        plan_asked (job_numbers_of options.now) graph.now.graph) }
+    ensures job { IfOk result (λ bare. IsJob (job_of graph.now.graph
+        (signed graph.now.graph bare))) }
 {
     let JobOptions {
         log2m,
@@ -154,10 +178,27 @@ fn plan_for(graph: &Graph, options: &JobOptions) -> Result<Plan, PlanError>
         limit,
         ..
     } = *options;
-    match options.estimate {
-        Estimate::Raw => graph.plan(log2m, seed, parts, limit),
-        Estimate::Corrected => graph.corrected_plan(log2m, seed, parts, limit),
+    if options.large {
+        return graph.large_plan(options.estimate, log2m, seed, parts, limit);
     }
+    graph.bare_plan(options.estimate, log2m, seed, parts, limit)
+}
+
+// The plan with its job digest.
+fn signed(graph: &Graph, bare: Plan) -> Plan
+    ensures { result ≡ signed graph.now.graph bare }
+{
+    let job = graph.digest(&bare);
+    bare.with_job(job)
+}
+
+// The plan over a graph, or the first fault of the options.
+fn plan_for(graph: &Graph, options: &JobOptions) -> Result<Plan, PlanError>
+    ensures value { result ≡ plan_asked (job_numbers_of options.now) graph.now.graph }
+    ensures job { IfOk result (λ plan. IsJob (job_of graph.now.graph plan)) }
+{
+    let bare = bare_plan_for(graph, options)?;
+    Ok(signed(graph, bare))
 }
 
 /// A partition's part of a job.

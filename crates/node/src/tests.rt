@@ -6,6 +6,7 @@
 mod answers;
 mod flushed;
 mod gathering;
+mod large;
 mod refusals;
 mod vectors;
 mod watched;
@@ -47,6 +48,7 @@ fn options(parts: u16, counted: bool) -> JobOptions {
         limit: 4096,
         estimate: Estimate::Raw,
         delimiter: Delimiter::Tab,
+        large: false,
         counted,
     }
 }
@@ -92,13 +94,18 @@ fn end_of<W: CountedWrite, V: Watch>(
     Some(serve_node(rt.alloc(), state, options, part, watch, &mut reader, writer))
 }
 
-/// Whether a node that reads this writes and ends as the case says.
-fn writes<V: Watch>(rt: &HostRuntime, case: &Case, input: &[u8], watch: &V) -> bool {
+/// Whether a node of such a job that reads this writes and ends as the case says.
+fn writes<V: Watch>(
+    rt: &HostRuntime,
+    case: &Case,
+    options: &JobOptions,
+    input: &[u8],
+    watch: &V,
+) -> bool {
     let Ok(mut writer) = MemWriter::with_room(rt.alloc(), 4096, None) else {
         return false;
     };
-    let options = options(case.parts, case.counted);
-    let end = end_of(rt, &options, case.part, input, watch, &mut writer);
+    let end = end_of(rt, options, case.part, input, watch, &mut writer);
     let text = writer.into_bytes();
     end == Some(case.end) && is_made_of(&text, case.text)
 }
@@ -106,7 +113,7 @@ fn writes<V: Watch>(rt: &HostRuntime, case: &Case, input: &[u8], watch: &V) -> b
 /// Whether a case is as it says.
 fn holds<V: Watch>(rt: &HostRuntime, case: &Case, watch: &V) -> bool {
     match joined(rt.alloc(), case.input) {
-        Ok(input) => writes(rt, case, &input, watch),
+        Ok(input) => writes(rt, case, &options(case.parts, case.counted), &input, watch),
         Err(_) => false,
     }
 }

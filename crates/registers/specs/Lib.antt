@@ -2,7 +2,9 @@ pub mod Flags
 pub mod Glance
 pub mod Joined
 pub mod Laws
+pub mod Lending
 pub mod Marks
 pub mod Raised
 pub mod Relay
 pub mod Shape
+pub mod Taken

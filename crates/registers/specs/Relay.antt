@@ -1,5 +1,5 @@
 -- A table that is handed out and goes on in another one.
-use Rattle.std.specs.Prelude.{◌≡◌, ◌≤◌, ◌<◌, ℕ, ◌*◌, Bool, false, List, [], length, slice_index_or, Option, None, Some, IfSome}
+use Rattle.std.specs.Prelude.{◌≡◌, ◌≤◌, ◌<◌, ℕ, ◌*◌, ◌||◌, Bool, false, List, [], length, slice_index_or, Option, None, Some, IfSome}
 use Rattle.ball_model.specs.Table.{Table}
 
 -- the table that is shown: the one that is handed out, or else the own one
@@ -41,3 +41,9 @@ IsRelay shown behind = IfSome behind (λ b. DifferWhere b.stale b.table shown)
 pub record HasRoomForTable (table : Table) (registers marks : ℕ) : Type 0 where
   pub all : room_for table ≤ registers
   pub each : length table.rows ≤ marks
+
+-- as many marks, and set where either is
+pub record AreEither (ms ns both : List Bool) : Type 0 where
+  pub long : length both ≡ length ms
+  pub set : (i : ℕ) → slice_index_or both i false ≡
+      (slice_index_or ms i false || slice_index_or ns i false)

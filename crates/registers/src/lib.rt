@@ -33,13 +33,14 @@ pub mod marks;
 pub mod mask;
 pub mod relay;
 pub mod rows;
+mod takes;
 
 pub use join::{Join, reconcile};
 use lanes::{HALF, LANES, raise_half, raise_lanes};
 pub use marks::next_marked;
 pub use mask::SourceMask;
 pub use relay::{Behind, Relay};
-pub use rows::{LINE, Rows};
+pub use rows::{LINE, Rows, glance_over};
 
 #[cfg(test)]
 mod tests;

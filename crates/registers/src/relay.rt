@@ -6,14 +6,16 @@ ghost use Rattle.std.specs.Arc.{arc_value};
 ghost use Rattle.std.specs.Vec.{vec_capacity};
 ghost use Rattle.ball_model.specs.Table.{Table};
 ghost use Rattle.registers.specs.Joined.{AreSameShape};
-ghost use Rattle.registers.specs.Relay.{DifferWhere, DifferWhereEither, IsRelay};
+ghost use Rattle.registers.specs.Relay.{AreEither, DifferWhere, DifferWhereEither, IsRelay};
 ghost use Rattle.registers.specs.Relay.{room_for, shown_of};
 
+use crate::takes::take_over;
 use crate::{Rows, next_marked};
 use std::alloc::{AllocError, Global};
 use std::marker::Model;
 use std::mem;
 use std::sync::Arc;
+use std::thread::Threads;
 
 /// Rows that can be handed out: what they become afterwards does not change what was handed out.
 ///
@@ -161,6 +163,28 @@ impl Relay {
         mark_one(&mut self.behind, i);
     }
 
+    /// All rows become those of `ahead`, from which they differ in marked rows alone, in 2^depth threads. It takes no
+    /// memory but that of the threads, and time as the marks and the marked rows, over the processors.
+    pub fn put_marked<R: Threads + Sync>(
+        &mut self,
+        rt: &R,
+        depth: u32,
+        ahead: &Rows,
+        marks: &[bool],
+    )
+        requires { DifferWhere marks.now self.old ahead.now }
+        ensures { self.new ≡ ahead.now }
+    {
+        let Relay {
+            own,
+            out,
+            behind,
+            ..
+        } = self;
+        mark_all(behind, marks);
+        replace(rt, depth, own, out, ahead, marks);
+    }
+
     /// What the rows were before they went on is what is behind from now on.
     pub fn leave_behind(&mut self, before: Option<Behind>)
         requires { IsRelay self.old before }
@@ -245,7 +269,7 @@ impl Behind {
 }
 
 // The rows are those that are shown, and are handed out no more.
-#[inline]
+#[inline(always)]
 fn part(own: &mut Rows, out: &mut Option<Shared>)
     ensures own { own.new ≡ shown_of own.old out.old }
     ensures out { out.new ≡ None }
@@ -265,6 +289,23 @@ fn copy_of(out: Shared) -> Rows
     table.copied_into(room)
 }
 
+// The rows that are shown are handed out no more, and become those of `ahead`.
+fn replace<R: Threads + Sync>(
+    rt: &R,
+    depth: u32,
+    own: &mut Rows,
+    out: &mut Option<Shared>,
+    ahead: &Rows,
+    marks: &[bool],
+)
+    requires { DifferWhere marks.now (shown_of own.old out.old) ahead.now }
+    ensures own { own.new ≡ ahead.now }
+    ensures out { out.new ≡ None }
+{
+    part(own, out);
+    take_over(rt, depth, own, ahead, marks);
+}
+
 // A row that changes is stale.
 #[inline]
 fn mark_one(behind: &mut Option<Behind>, i: usize)
@@ -275,6 +316,28 @@ fn mark_one(behind: &mut Option<Behind>, i: usize)
     match behind {
         Some(behind) => behind.stale[i] = true,
         None => {}
+    }
+}
+
+// Rows that are marked are stale.
+fn mark_all(behind: &mut Option<Behind>, marks: &[bool])
+    requires { IfSome behind.old (λ b. length b.stale ≡ length marks.now) }
+    ensures { (shown ahead : Table) → IsRelay shown behind.old →
+        DifferWhere marks.now shown ahead → IsRelay ahead behind.new }
+{
+    match behind {
+        Some(behind) => add_marks(&mut behind.stale, marks),
+        None => {}
+    }
+}
+
+// What either marks is marked.
+fn add_marks(marks: &mut [bool], more: &[bool])
+    requires { length marks.old ≡ length more.now }
+    ensures { AreEither marks.old more.now marks.new }
+{
+    for i in 0..marks.len() {
+        marks[i] |= more[i];
     }
 }
 

@@ -7,11 +7,13 @@ pub mod OptionLemmas
 pub mod HearingLemmas
 pub mod HeardLemmas
 pub mod SpreadLemmas
+pub mod PullLemmas
 pub mod SeenLemmas
 pub mod SentLemmas
 pub mod RunsLemmas
 pub mod ChangeLemmas
 pub mod StartLemmas
+pub mod SteppingLemmas
 pub mod MergedLemmas
 pub mod TablesLemmas
 pub mod TalliesLemmas

@@ -49,7 +49,7 @@ spread-more before after src p rows lt adds =
 
 -- ---- which rows are touched
 -- whether a row became another
-changed_is : (r : Bool) (new old : List ℕ) → (r ≡ false) ↔ (new ≡ old) → r ≡ not (bytes_eq new old)
+pub changed_is : (r : Bool) (new old : List ℕ) → (r ≡ false) ↔ (new ≡ old) → r ≡ not (bytes_eq new old)
 changed_is r new old h = grind (arith, bytes_eq-Decides)
 
 mark_here : (b a r : Bool) (before after src : List ℕ) (rows : List (List ℕ)) (p : ℕ) → stands_in before p ≡ b → stands_in after p ≡ true → r ≡ not (bytes_eq (max_each (row_after before src rows p) src) (row_after before src rows p)) →
@@ -111,7 +111,7 @@ all_last P [] ys h = h
 all_last P (x ∷ xs) ys h = all_last P xs ys (λ j e l. h (suc j) e (omega arith))
 
 -- ---- an accumulator that is above its row, and is raised
-above_stays : (row acc s : List ℕ) → max_each row acc ≡ acc → max_each row (max_each acc s) ≡ max_each acc s
+pub above_stays : (row acc s : List ℕ) → max_each row acc ≡ acc → max_each row (max_each acc s) ≡ max_each acc s
 above_stays [] [] s h = refl
 above_stays [] (a ∷ acc) s h = absurd (cc)
 above_stays (x ∷ row) [] s h = refl

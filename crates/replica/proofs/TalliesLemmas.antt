@@ -16,7 +16,7 @@ unfolding shown_tallies
 handed_out_is own is some = rw some at is
 
 -- figures whose estimate stays are as they were
-still : (t e : ℕ) (v : TallyValue) → 0 < t → v.last ≡ e → next_tally t v e ≡ v
+pub still : (t e : ℕ) (v : TallyValue) → 0 < t → v.last ≡ e → next_tally t v e ≡ v
 still t e v from same = grind arith
 
 -- the sum of the last estimates

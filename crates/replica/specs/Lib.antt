@@ -3,6 +3,7 @@ pub mod Ahead
 pub mod Kept
 pub mod Index
 pub mod Spread
+pub mod Stepping
 pub mod Hearing
 pub mod Change
 pub mod Start
@@ -15,3 +16,4 @@ pub mod Runs
 pub mod Heard
 pub mod Saved
 pub mod Progress
+pub mod Pull

@@ -31,6 +31,7 @@ use edgelist::Part;
 use figures::Estimator;
 use std::alloc::{AllocError, Global};
 use std::sync::Arc;
+use std::thread::Threads;
 
 impl Replica {
     /// A replica of the part at superstep 0, which holds no batch: each vertex has seen itself.
@@ -159,6 +160,40 @@ impl Replica {
     {
         self.progress
             .close_level(&self.targets, &self.estimator, &mut self.weights)
+    }
+
+    /// Closes the superstep as [`Replica::close`] does, in so many threads. Where many vertices changed, each accumulator is
+    /// raised by the rows of its own predecessors ("pulled") by one thread, so that threads share nothing that is written.
+    /// Where there are as many threads as processors, some more are made, since parts of the work take unequal times.
+    ///
+    /// Errors are those of `close`. It takes no memory but that of its threads, which it joins; a thread that cannot be
+    /// started is done without. It takes the time of `close`, over the processors where many vertices changed.
+    pub fn close_by<R: Threads + Sync>(&mut self, rt: &R, threads: usize) -> Result<u32, CloseError>
+        ensures waits { (q : ℕ) →
+            (result ≡ Err (waits.Waiting q)) ↔ (missing_in self.old ≡ Some q) }
+        ensures goes_on { (result ≡ Ok (self.old.superstep + 1)) ↔
+            (found_verdict self.old ≡ Some verdict.GoOn) }
+        ensures finished { (result ≡ Err waits.Finished) ↔ EndsRun (found_verdict self.old) }
+        ensures refused { OnErr result (self.new ≡ self.old) }
+        ensures part { self.new.part ≡ self.old.part }
+        ensures superstep { IfOk result (λ t.
+            (t ≡ self.old.superstep + 1) × (self.new.superstep ≡ t)) }
+        ensures names { OnOk result ((s q : ℕ) →
+            (content_of self.new).holds s q ≡ (after_close (content_of self.old)).holds s q) }
+        ensures answer { (j : Job) (p t : ℕ) → StandsFor j p t self.old →
+            result ≡ close_of j p (content_of self.old) }
+        ensures stands { (j : Job) (p t : ℕ) → StandsFor j p t self.old →
+            OnOk result (StandsFor j p (t + 1) self.new) }
+        // a step of a run
+        ensures step { (j : Job) (p : ℕ) → Closes j p result self.old self.new }
+    {
+        self.progress.close_level_by(
+            rt,
+            threads,
+            &self.targets,
+            &self.estimator,
+            &mut self.weights,
+        )
     }
 
     /// Gives back the memory that a run that is over needs no more: that of the index, and that of the accumulators if

@@ -6,11 +6,13 @@ ghost use Rattle.replica.specs.Hearing.{BeginsSuperstep, CanFill, CanHear, CanJo
 ghost use Rattle.replica.specs.Hearing.{CanRenew, Renews, Fills, HearsAlso, HearsEarly, IsQuiet};
 ghost use Rattle.replica.specs.Hearing.{HearsByIndex, KeepsAllOrNone, SaysSame};
 ghost use Rattle.replica.specs.Hearing.{accumulators_of, batch_by};
+ghost use Rattle.replica.specs.Index.{targets_of};
 ghost use Rattle.replica.specs.Level.{differences};
 ghost use Rattle.replica.specs.Tables.{CanHearOwn, HearsOwn};
 
 use crate::early::{Early, LEVELS};
 use crate::level;
+use crate::pull::hear_rows;
 use crate::shown::copy_rows;
 use crate::spread::{spread_batch, spread_own};
 use crate::tables::Tables;
@@ -21,6 +23,7 @@ use edgelist::Part;
 use registers::{Join, Rows, SourceMask};
 use std::alloc::{AllocError, Global};
 use std::marker::Model;
+use std::thread::Threads;
 
 /// Of which sources a superstep's batches are heard, and what is accumulated for each row.
 #[derive(Drop)]
@@ -167,6 +170,32 @@ impl Hearing {
         ensures { HearsOwn part.now targets.now tables.now self.old self.new }
     {
         spread_own(
+            targets,
+            part,
+            tables.rows(),
+            tables.marks(),
+            &mut self.accumulated,
+            &mut self.touched,
+        );
+    }
+
+    /// The own rows that changed are heard as [`Hearing::hear_own`] hears them, in several threads where that takes less
+    /// time.
+    pub fn hear_own_by<R: Threads + Sync>(
+        &mut self,
+        rt: &R,
+        threads: usize,
+        targets: &Targets,
+        part: &Part,
+        tables: &Tables,
+    )
+        requires index { targets.now ≡ targets_of part.now }
+        requires can { CanHearOwn part.now targets.now tables.now self.old }
+        ensures { HearsOwn part.now targets.now tables.now self.old self.new }
+    {
+        hear_rows(
+            rt,
+            threads,
             targets,
             part,
             tables.rows(),

@@ -95,8 +95,9 @@ fn row_before<'a>(before: &'a Option<Behind>, rows: &'a Relay, i: usize) -> &'a 
     }
 }
 
-// The figures at superstep `t` of a row that has become the one ahead; the answer is what its estimate has gained.
-fn step_tally(
+/// The figures at superstep `t` of a row that has become the one ahead; the answer is what its estimate has gained.
+#[inline(always)]
+pub fn step_tally(
     estimator: &Estimator,
     t: u32,
     row: &[u8],

@@ -4,7 +4,8 @@
 //! figures so far, and the batches that it holds, of superstep t and the [`LEVELS`] after it. It holds its level where it
 //! has the batch of superstep t of every other partition, those without rows too. Then [`Shown::verdict`] says whether the
 //! run goes on, and [`Replica::close`] makes the rows of t + 1: each is raised by those of its predecessors that
-//! changed at t, and by no other, since an unchanged row has nothing new to say. [`Replica::out`] is what the
+//! changed at t, and by no other, since an unchanged row has nothing new to say; [`Replica::close_by`] does so in several
+//! threads. [`Replica::out`] is what the
 //! partition tells another one of t ([`Replica::out_of`] tells the same over a table of the rows that changed, which
 //! all batches of t share), and [`Replica::take`] holds what it is told. What a replica and a snapshot of it
 //! tell of what they have are the calls of one trait, [`Shown`].
@@ -45,12 +46,15 @@ pub mod laws;
 mod level;
 mod merge;
 mod out;
+mod pull;
 mod rebuild;
 pub mod saved;
 mod shown;
 mod spread;
 mod start;
 mod step;
+mod step_by;
+mod stepping;
 mod tables;
 mod tallies;
 mod targets;

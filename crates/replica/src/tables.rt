@@ -7,6 +7,7 @@ ghost use Rattle.figures.specs.Values.{value_of};
 ghost use Rattle.replica.specs.Tables.{AreFirst, AreRefilled, CanStep, HasRoomFor, NextTables};
 
 use crate::hearing::Hearing;
+use crate::pull::halvings_for;
 use crate::tallies::Tallies;
 use crate::{level, start};
 use edgelist::Part;
@@ -14,6 +15,7 @@ use figures::{Estimator, Tally};
 use registers::{Relay, Rows};
 use std::alloc::{AllocError, Global};
 use std::marker::Model;
+use std::thread::Threads;
 
 /// The rows of a superstep, which of them changed there, their figures, and the sums of their estimates at each
 /// superstep so far.
@@ -132,6 +134,37 @@ impl Tables {
             .tallies
             .step(estimator, t + 1, &mut self.rows, ahead, marks, weights);
         self.sums.push_reserved(last + gain);
+        hearing.begin(&mut self.marks);
+    }
+
+    /// Goes on as [`Tables::next`] does, in up to so many threads where it is worth it.
+    pub fn next_by<R: Threads + Sync>(
+        &mut self,
+        rt: &R,
+        threads: usize,
+        estimator: &Estimator,
+        t: u32,
+        hearing: &mut Hearing,
+        weights: &mut [u64],
+    )
+        requires { CanStep estimator.now t self.old hearing.old weights.old }
+        ensures { NextTables estimator.now t self.old self.new hearing.old hearing.new weights.new }
+    {
+        let last = self.sums[t as usize];
+        let (ahead, marks) = (hearing.ahead(), hearing.touched());
+        let depth = halvings_for(rt, threads, ahead.width(), marks);
+        let gain = self.tallies.step_by(
+            rt,
+            depth,
+            estimator,
+            t + 1,
+            &mut self.rows,
+            ahead,
+            marks,
+            weights,
+        );
+        let sum = last + gain;
+        self.sums.push_reserved(sum);
         hearing.begin(&mut self.marks);
     }
 

@@ -9,12 +9,14 @@ ghost use Rattle.replica.specs.Tallies.{AreEither, AreReady, AreRelayed, CanBeRe
 ghost use Rattle.replica.specs.Tallies.{shown_tallies};
 
 use crate::level;
+use crate::stepping::step_rows_by;
 use figures::{Estimator, Tally};
 use registers::{Relay, Rows, next_marked};
 use std::alloc::{AllocError, Global};
 use std::marker::Model;
 use std::mem;
 use std::sync::Arc;
+use std::thread::Threads;
 
 /// Tallies that can be handed out, as a [`registers::Relay`] hands out rows: what they become afterwards does not
 /// change what was handed out.
@@ -136,6 +138,43 @@ impl Tallies {
         let out = self.out.take();
         go_on(&mut self.own, out, &mut self.behind, &mut self.spare, marks);
         level::step_rows(estimator, t, rows, ahead, marks, weights, &mut self.own)
+    }
+
+    /// They go on as [`Tallies::step`] does, in 2^depth threads.
+    pub fn step_by<R: Threads + Sync>(
+        &mut self,
+        rt: &R,
+        depth: u32,
+        estimator: &Estimator,
+        t: u32,
+        rows: &mut Relay,
+        ahead: &Rows,
+        marks: &[bool],
+        weights: &mut [u64],
+    ) -> u128
+        requires { CanBeStepped estimator.now t rows.old ahead.now marks.now weights.old self.old }
+        ensures { AreStepped estimator.now t ahead.now self.old self.new weights.new result
+            rows.new }
+    {
+        let shown = self.out.take();
+        go_on(
+            &mut self.own,
+            shown,
+            &mut self.behind,
+            &mut self.spare,
+            marks,
+        );
+        step_rows_by(
+            rt,
+            depth,
+            estimator,
+            t,
+            rows,
+            ahead,
+            marks,
+            weights,
+            &mut self.own,
+        )
     }
 
     /// They become others, as many. It takes no memory.

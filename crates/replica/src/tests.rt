@@ -16,6 +16,7 @@ mod script;
 mod shown;
 mod snapshots;
 mod table;
+mod threads;
 mod unions;
 
 use super::*;

@@ -3,10 +3,11 @@ use Rattle.std.proofs.Common.{◌≡◌, ◌∙◌, ℕ, List, ap, nat_lt, refl,
 use Rattle.std.specs.Prelude.{Option, None, Some, Result, Ok, Err, IfOk, IfErr, IfSome, OnOk, ◌||◌}
 use Rattle.std.specs.Io.KnownBytes.{Appends}
 use Rattle.std.specs.Borrow.{Bor}
+use Rattle.ball_model.specs.Graph.{Graph}
 use Rattle.ball_model.specs.Input.{IsPlain, Network}
-use Rattle.ball_model.specs.PlanValue.{PlanValue, mixing_of, plan_of}
+use Rattle.ball_model.specs.PlanValue.{PlanValue, mixing_of, plan_within}
 use Rattle.ball_model.specs.Report.{report_of}
-use Rattle.ball_model.specs.RunText.{AreRead, HasPlan, IsReport, IsReportOf, Numbers, Settings, list_in, network_in, plan_over}
+use Rattle.ball_model.specs.RunText.{AreRead, HasPlan, IsReport, IsReportOf, Numbers, Settings, list_in, network_in, plan_asked, plan_over, run_limits}
 use Rattle.ball_model.specs.declared.plan.PlanError.{PlanError}
 use Rattle.ball_model.proofs.BoolLemmas.{by_cases}
 use Rattle.edgelist.specs.Counting.{IsListRefusal, RefusesList}
@@ -82,16 +83,16 @@ unwritten o told counted text (Ok x) report h = where_always o told counted (λ 
 unwritten o told counted text (Err e) report h = where_weaker o told counted (λ s input list. IsReport s input list text) (λ s input list. IsRunRefusal s input list e) (λ input is. subst (λ (x : RunError). IsRunRefusal (run_settings_of o) input (list_in counted) x) (sym h) (record { network = is.network; read = is.read; planned = is.report.planned })) report
 
 -- the plan that is asked for, where there is one
-plan_or_fault : (p : PlanValue) → IfOk (plan_of p) (λ q. plan_of p ≡ Ok p)
-plan_or_fault p =
+plan_or_fault : (most : ℕ) (p : PlanValue) → IfOk (plan_within most p) (λ q. plan_within most p ≡ Ok p)
+plan_or_fault most p =
     by_cases (nat_lt p.log2m 4 || nat_lt 10 p.log2m) _ (λ t. rw t tt)
     (λ a. by_cases (nat_lt p.parts 1 || nat_lt 64 p.parts) _ (λ t. rw (a, t) tt)
     (λ b. by_cases (nat_lt p.limit 1 || nat_lt 4096 p.limit) _ (λ t. rw (a, b, t) tt)
-    (λ d. by_cases (nat_lt 16777216 p.vertices) _ (λ t. rw (a, b, d, t) tt)
+    (λ d. by_cases (nat_lt most p.vertices) _ (λ t. rw (a, b, d, t) tt)
     (λ e. rw (a, b, d, e) refl))))
 
-pub planned : (p q : PlanValue) → ◌≡◌ {A = Result PlanValue PlanError} (Ok q) (plan_of p) → plan_of p ≡ Ok p
-planned p q is = sym is ∙ (rw (← is) at (plan_or_fault p))
+pub planned : (n : Numbers) (g : Graph) (q : PlanValue) → ◌≡◌ {A = Result PlanValue PlanError} (Ok q) (plan_asked n g) → plan_asked n g ≡ Ok (plan_over n g)
+planned n g q is = sym is ∙ (rw (← is) at (plan_or_fault (run_limits n.large).vertices (plan_over n g)))
 
 -- a fault of the nodes, where there is a plan
 pub refuses_job : (n : Numbers) (network : Network) (e : JobError) → HasPlan n network → RefusesNetwork n network (job_fault e)
@@ -101,9 +102,9 @@ refuses_job n network job.Memory h = h
 refuses_job n network (job.Starved node s q) h = h
 
 -- the text under the plan that is asked for is the network's report
-pub report_planned : (n : Numbers) (network : Network) (q : PlanValue) (text : List ℕ) → ◌≡◌ {A = Result PlanValue PlanError} (Ok q) (plan_of (plan_over n network.graph)) → text ≡ report_of (mixing_of q) network.graph network.labels q.limit → IsReportOf n network text
+pub report_planned : (n : Numbers) (network : Network) (q : PlanValue) (text : List ℕ) → ◌≡◌ {A = Result PlanValue PlanError} (Ok q) (plan_asked n network.graph) → text ≡ report_of (mixing_of q) network.graph network.labels q.limit → IsReportOf n network text
 report_planned n network q text is h =
-    let plan : plan_of (plan_over n network.graph) ≡ Ok (plan_over n network.graph) = planned (plan_over n network.graph) q is in
+    let plan : plan_asked n network.graph ≡ Ok (plan_over n network.graph) = planned n network.graph q is in
     let both : ◌≡◌ {A = Result PlanValue PlanError} (Ok q) (Ok (plan_over n network.graph)) = is ∙ plan in
     let same : q ≡ plan_over n network.graph = cc both in
     record { planned = plan; text_is = h ∙ ap (λ (a : PlanValue). report_of (mixing_of a) network.graph network.labels a.limit) same }

@@ -11,7 +11,9 @@ use Rattle.workers.specs.declared.node.NodeOrders.{NodeOrders}
 use Rattle.workers.specs.declared.options.RunOptions.{RunOptions}
 
 abbrev pub run_numbers_of : RunOptions → Numbers
-run_numbers_of o = numbers_with (is_corrected o.estimate) o.log2m o.seed o.parts o.limit
+run_numbers_of o =
+    record (numbers_with (is_corrected o.estimate) o.log2m o.seed o.parts o.limit)
+    { large = o.large }
 
 abbrev pub run_settings_of : RunOptions → Settings
 run_settings_of o = record { numbers = run_numbers_of o; delimiter = byte_of o.delimiter }

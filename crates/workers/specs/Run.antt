@@ -2,11 +2,10 @@
 use Rattle.std.specs.Prelude.{◌≡◌, ⊤, ℕ, false, List, Option, Result, Err, IfSome}
 use Rattle.std.specs.Prelude.{MatchResult}
 use Rattle.std.specs.Borrow.{Bor}
-use Rattle.ball_model.specs.PlanValue.{plan_of}
 use Rattle.ball_model.specs.Input.{Network}
 use Rattle.ball_model.specs.Counting.{CountedRefusal}
 use Rattle.ball_model.specs.RunText.{AppendsReport, ArePlain, AreRead, HasPlan, IsPlanFault, IsReportOf}
-use Rattle.ball_model.specs.RunText.{Numbers, Settings, counted_in, list_in, network_in, plan_over}
+use Rattle.ball_model.specs.RunText.{Numbers, Settings, counted_in, list_in, network_in, plan_asked}
 use Rattle.edgelist.specs.Reading.{Refuses}
 use Rattle.edgelist.specs.Counting.{IsListRefusal}
 use Rattle.workers.specs.declared.ends.JobError.{JobError}
@@ -87,7 +86,7 @@ abbrev pub RefusesNetwork : Numbers → Network → RunError → Type 0
 RefusesNetwork n network fault.Options = ⊥
 RefusesNetwork n network (fault.Edges e) = ⊥
 RefusesNetwork n network (fault.Counted e) = ⊥
-RefusesNetwork n network (fault.Plan e) = plan_of (plan_over n network.graph) ≡ Err e
+RefusesNetwork n network (fault.Plan e) = plan_asked n network.graph ≡ Err e
 RefusesNetwork n network (fault.PartitionLost p) = HasPlan n network
 RefusesNetwork n network fault.BookFull = HasPlan n network
 RefusesNetwork n network fault.Memory = HasPlan n network

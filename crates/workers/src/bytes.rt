@@ -1,19 +1,21 @@
-//! A run from bytes to bytes: a thread for each node, and all processors for the figures.
+//! A run from bytes to bytes: a thread for each node, more of them in large supersteps, and all processors for the
+//! figures.
 
-ghost use Rattle.std.specs.Prelude.{◌≡◌, ◌≢◌, Ok, Err, true, false, OnOk, OnErr, IfOk, IfErr};
+ghost use Rattle.std.specs.Prelude.{◌≡◌, ◌≢◌, ◌<◌, Ok, Err, true, false, OnOk, OnErr, IfOk, IfErr};
 ghost use Rattle.std.specs.Prelude.{IfSome, length};
 ghost use Rattle.std.specs.Io.KnownBytes.{Appends, Keeps};
 ghost use Rattle.ball_model.specs.Job.{IsJob, job_of};
 ghost use Rattle.ball_model.specs.Input.{IsPlain, records};
-ghost use Rattle.ball_model.specs.PlanValue.{mixing_of, plan_of};
+ghost use Rattle.ball_model.specs.PlanValue.{mixing_of};
 ghost use Rattle.ball_model.specs.Report.{report_of};
-ghost use Rattle.ball_model.specs.RunText.{AreRead, IsReport, list_in, plan_over};
+ghost use Rattle.ball_model.specs.RunText.{AreRead, IsReport, list_in, network_in, plan_asked};
 ghost use Rattle.ball_model.specs.Streams.{Rises};
 ghost use Rattle.edgelist.specs.Counting.{RefusesList};
 ghost use Rattle.edgelist.specs.Planning.{signed};
-ghost use Rattle.edgelist.specs.Reading.{CountsOne};
+ghost use Rattle.edgelist.specs.Reading.{CountsOne, Refuses, byte_of};
+ghost use Rattle.edgelist.specs.Records.{ForPlain};
 ghost use Rattle.workers.specs.Job.{AreDone, AreParts, IsFaultOf};
-ghost use Rattle.workers.specs.Options.{are_in_limits, run_numbers_of};
+ghost use Rattle.workers.specs.Options.{are_in_limits, run_numbers_of, run_settings_of};
 ghost use Rattle.workers.specs.Run.{AddsReport, AnswersNetwork, IsFaultIn, IsRunRefusal};
 ghost use Rattle.workers.specs.Run.{RefusesRead, WherePlain, run_counted_by};
 
@@ -23,7 +25,10 @@ use crate::job::run_job;
 use crate::options::RunOptions;
 use crate::planned::{Planned, SharedPart, plan_parts};
 use ball_model::{CountedRead, CountedWrite, CountingWriter, NodeId, Plan, PlanError};
-use edgelist::{CountedError, EdgeError, EdgeList, Graph, LIMITS, read_edge_list};
+use edgelist::{
+    CountedError, EdgeError, EdgeList, Graph, LARGE_LIMITS, LIMITS, read_edge_list,
+    read_large_edge_list,
+};
 use replica::Replica;
 use report::{Pages, write_report};
 use std::alloc::{AllocError, AllocGlobal, Global};
@@ -151,6 +156,30 @@ fn count_listed(
     Ok(())
 }
 
+// The graph that an edge list says, and how many records it has; a large one only where that is asked for.
+fn read_list<R: CountedRead>(
+    alloc: Global,
+    state: RandomState,
+    reader: &mut R,
+    options: &RunOptions,
+) -> Result<EdgeList, EdgeError>
+    ensures ok { ForPlain (R.remaining reader.old) (λ text.
+        IfOk result (λ read. network_in (run_settings_of options.now) text ≡ Ok read.graph)) }
+    ensures count { ForPlain (R.remaining reader.old) (λ text. IfOk result (λ read.
+        read.records ≡ length (records (byte_of options.now.delimiter) text))) }
+    ensures refused { ForPlain (R.remaining reader.old) (λ text.
+        IfErr result (Refuses (network_in (run_settings_of options.now) text))) }
+    ensures read { result ≡ Err EdgeError.Read →
+        R.failed_calls reader.old < R.failed_calls reader.new }
+    ensures failed { CountsOne (R.failed_calls reader.old) (R.failed_calls reader.new) →
+        result ≡ Err EdgeError.Read }
+{
+    if options.large {
+        return read_large_edge_list(alloc, state, reader, options.delimiter, LARGE_LIMITS);
+    }
+    read_edge_list(alloc, state, reader, options.delimiter, LIMITS)
+}
+
 // The graph that an edge list and a list of counted vertices say, and how many records the edge list has.
 fn read_network<T: AllocGlobal, R: CountedRead>(
     rt: &T,
@@ -172,7 +201,7 @@ fn read_network<T: AllocGlobal, R: CountedRead>(
         result ≡ Err (RunError.Edges EdgeError.Read) }
     ensures fault { IfErr result (IsFaultIn options.now) }
 {
-    let mut read = read_edge_list(rt.alloc(), state, reader, options.delimiter, LIMITS)?;
+    let mut read = read_list(rt.alloc(), state, reader, options)?;
     count_listed(rt.alloc(), &mut read.graph, counted, options)?;
     Ok(read)
 }
@@ -180,9 +209,9 @@ fn read_network<T: AllocGlobal, R: CountedRead>(
 // The plan of a run over a graph but for its digest, or the first fault of the options.
 fn bare_plan_for(graph: &Graph, options: &RunOptions) -> Result<Plan, PlanError>
     ensures ok { IfOk result (λ bare. Ok (signed graph.now.graph bare) ≡
-        plan_of (plan_over (run_numbers_of options.now) graph.now.graph)) }
+        plan_asked (run_numbers_of options.now) graph.now.graph) }
     ensures refused { IfErr result (λ fault. Err fault ≡
-        plan_of (plan_over (run_numbers_of options.now) graph.now.graph)) }
+        plan_asked (run_numbers_of options.now) graph.now.graph) }
     ensures job { IfOk result (λ bare. IsJob (job_of graph.now.graph
         (signed graph.now.graph bare))) }
     ensures parts { IfOk result (λ bare. bare.parts ≡ options.now.parts) }
@@ -194,6 +223,9 @@ fn bare_plan_for(graph: &Graph, options: &RunOptions) -> Result<Plan, PlanError>
         limit,
         ..
     } = *options;
+    if options.large {
+        return graph.large_plan(options.estimate, log2m, seed, parts, limit);
+    }
     graph.bare_plan(options.estimate, log2m, seed, parts, limit)
 }
 
@@ -296,8 +328,9 @@ fn write_text<W: CountedWrite>(writer: &mut W, text: &Pages) -> Result<(), RunEr
     }
 }
 
-/// Reads an edge list and writes its report. A thread for each replica of each partition makes the supersteps, and all
-/// processors make the figures.
+/// Reads an edge list and writes its report. A thread for each replica of each partition makes the supersteps; where many
+/// vertices changed, it shares the work with others, so that together they use as many as the options say. All processors
+/// make the figures.
 ///
 /// With a list of `counted` vertices only those are counted; the list is read after the edge list, and its lines are
 /// as there, one label in each. The report is built in memory and then written, so nothing is written unless the

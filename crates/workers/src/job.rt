@@ -19,6 +19,7 @@ use crate::node::{NodeEnd, NodeError, NodeOrders, run_ready};
 use crate::options::RunOptions;
 use crate::planned::SharedPart;
 use crate::running::{RunGate, Running};
+use crate::threads::{share_of, threads_for};
 use ball_model::{NodeId, Plan};
 use board::{Board, Seat};
 use edgelist::Graph;
@@ -69,7 +70,7 @@ struct Duty {
 }
 
 // Runs a node at its seat, and tells the others where it ends before the end of the run.
-fn run_at<R: AllocGlobal + Wait, G: Gate>(
+fn run_at<R: AllocGlobal + Threads + Wait + Sync, G: Gate>(
     rt: &R,
     board: &Board,
     seat: Seat,
@@ -86,7 +87,16 @@ fn run_at<R: AllocGlobal + Wait, G: Gate>(
 {
     let mut exchange = BoardExchange::new(board, seat);
     let gate = RunGate::new(gate, running);
-    let end = run_ready(rt, &mut exchange, &gate, duty.node, part, &duty.orders);
+    let threads = running.threads();
+    let end = run_ready(
+        rt,
+        &mut exchange,
+        &gate,
+        duty.node,
+        part,
+        &duty.orders,
+        threads,
+    );
     if !is_done(&end) {
         running.end(duty.node.part);
     }
@@ -361,7 +371,12 @@ pub fn run_job<R: AllocGlobal + Threads + Wait + Sync, G: Gate + Sync>(
 {
     let (board, first) = Board::open(rt.alloc(), graph, plan, options.entries)?;
     let board = &board;
-    let running = Running::new(rt.alloc(), plan.parts(), options.replicas)?;
+    let threads = share_of(
+        threads_for(rt, options.threads),
+        plan.parts(),
+        options.replicas,
+    );
+    let running = Running::new(rt.alloc(), plan.parts(), options.replicas, threads)?;
     let running = &running;
     thread::scope(
         thread::scope_env(),

@@ -39,6 +39,7 @@ mod planned;
 mod running;
 mod shared;
 mod superstep;
+mod threads;
 
 pub use bytes::{RunError, run};
 pub use exchange::{BoardExchange, Exchange};

@@ -20,12 +20,14 @@ use crate::gate::Gate;
 use crate::indexed::ReadyPart;
 use crate::shared::SharedTables;
 use crate::superstep::{SuperstepEnd, catch_up, run_superstep};
+use crate::threads::{share_of, threads_for};
 use ball_model::NodeId;
 use board::BoardError;
 use edgelist::Part;
 use replica::{Replica, Shown};
 use std::alloc::{AllocError, AllocGlobal, Global};
 use std::sync::{Arc, Wait};
+use std::thread::Threads;
 use thiserror::Error;
 
 /// What a node is told to do.
@@ -151,14 +153,15 @@ fn begin_anew<R: AllocGlobal + Wait, E: Exchange>(
     Ok(())
 }
 
-// The replica goes on, superstep by superstep, until its fate is met.
-fn go_on<R: AllocGlobal + Wait, E: Exchange, G: Gate>(
+// The replica goes on, superstep by superstep, until its fate is met. It uses so many threads.
+fn go_on<R: AllocGlobal + Threads + Wait + Sync, E: Exchange, G: Gate>(
     rt: &R,
     exchange: &mut E,
     gate: &G,
     node: NodeId,
     part: &Arc<Part>,
     orders: &NodeOrders,
+    threads: usize,
     replica: &mut Replica,
 ) -> Result<Fate, NodeError>
     requires caller { IsCaller (E.caller exchange.old) }
@@ -188,7 +191,16 @@ fn go_on<R: AllocGlobal + Wait, E: Exchange, G: Gate>(
             begin_anew(rt, exchange, node, part, replica)?;
             continue;
         }
-        match run_superstep(rt, exchange, gate, node, orders, &mut tables, replica)? {
+        match run_superstep(
+            rt,
+            exchange,
+            gate,
+            node,
+            orders,
+            threads,
+            &mut tables,
+            replica,
+        )? {
             SuperstepEnd::Next => {}
             SuperstepEnd::Over => return Ok(Fate::Done),
             SuperstepEnd::Starved { source } => {
@@ -223,11 +235,12 @@ fn end_with(fate: Result<Fate, NodeError>, replica: Replica) -> Result<NodeEnd, 
 /// At each superstep it is lost or starts anew where an order falls due, keeps a snapshot, tells every other partition
 /// what changed, takes what they tell, and goes on. While a batch is missing it takes over a snapshot of a further
 /// superstep, if another node of its partition has kept one; else it idles until the history has grown. An error or an
-/// end leaves in the exchange the entries that were made before.
+/// end leaves in the exchange the entries that were made before. Where many vertices changed it shares a superstep with
+/// other threads: of the processors each partition has as many.
 ///
 /// [`BookFull`](NodeError::BookFull) where a call of the exchange is refused because the history is full,
 /// [`Memory`](NodeError::Memory) where a growth is refused, each as it happens.
-pub fn run_node<R: AllocGlobal + Wait, E: Exchange, G: Gate>(
+pub fn run_node<R: AllocGlobal + Threads + Wait + Sync, E: Exchange, G: Gate>(
     rt: &R,
     exchange: &mut E,
     gate: &G,
@@ -263,17 +276,19 @@ pub fn run_node<R: AllocGlobal + Wait, E: Exchange, G: Gate>(
         orders.now.restart ≡ None → result ≢ Err BookFull }
 {
     let replica = first_replica(rt.alloc(), &part)?;
-    run_from(rt, exchange, gate, node, &part, orders, replica)
+    let threads = share_of(threads_for(rt, 0), replica.plan().parts(), 1);
+    run_from(rt, exchange, gate, node, &part, orders, threads, replica)
 }
 
-/// Runs a node of a partition as [`run_node`] does, by a part that is ready for it.
-pub(crate) fn run_ready<R: AllocGlobal + Wait, E: Exchange, G: Gate>(
+/// Runs a node of a partition as [`run_node`] does, by a part that is ready for it, and in so many threads.
+pub(crate) fn run_ready<R: AllocGlobal + Threads + Wait + Sync, E: Exchange, G: Gate>(
     rt: &R,
     exchange: &mut E,
     gate: &G,
     node: NodeId,
     part: ReadyPart,
     orders: &NodeOrders,
+    threads: usize,
 ) -> Result<NodeEnd, NodeError>
     requires caller { IsCaller (E.caller exchange.old) }
     requires job { IsJob (E.caller exchange.old).seen.job }
@@ -283,17 +298,18 @@ pub(crate) fn run_ready<R: AllocGlobal + Wait, E: Exchange, G: Gate>(
 {
     let shared = Arc::try_clone(part.part())?;
     let replica = part.into_replica(rt.alloc())?;
-    run_from(rt, exchange, gate, node, &shared, orders, replica)
+    run_from(rt, exchange, gate, node, &shared, orders, threads, replica)
 }
 
-// Runs a node of a partition to its end, by a new replica.
-fn run_from<R: AllocGlobal + Wait, E: Exchange, G: Gate>(
+// Runs a node of a partition to its end, by a new replica and in so many threads.
+fn run_from<R: AllocGlobal + Threads + Wait + Sync, E: Exchange, G: Gate>(
     rt: &R,
     exchange: &mut E,
     gate: &G,
     node: NodeId,
     part: &Arc<Part>,
     orders: &NodeOrders,
+    threads: usize,
     replica: Replica,
 ) -> Result<NodeEnd, NodeError>
     requires caller { IsCaller (E.caller exchange.old) }
@@ -307,6 +323,15 @@ fn run_from<R: AllocGlobal + Wait, E: Exchange, G: Gate>(
 {
     let mut replica = replica;
     gate.after_start(node);
-    let fate = go_on(rt, exchange, gate, node, part, orders, &mut replica);
+    let fate = go_on(
+        rt,
+        exchange,
+        gate,
+        node,
+        part,
+        orders,
+        threads,
+        &mut replica,
+    );
     end_with(fate, replica)
 }

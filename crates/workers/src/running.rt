@@ -1,24 +1,37 @@
-//! Which partitions may still tell something: what the nodes of a run know of one another's ends.
+//! What the nodes of a run share: which partitions may still tell something, and how many threads each node has.
 
 use crate::gate::Gate;
 use ball_model::NodeId;
 use std::alloc::{AllocError, Global};
 use std::sync::atomic::{AtomicU32, Ordering};
 
-/// How many nodes of each partition have ended before the end of the run.
+/// How many nodes of each partition have ended before the end of the run, and how many threads a node may use.
 #[derive(Drop)]
 pub struct Running {
     ended: Vec<AtomicU32>,
     replicas: u32,
+    threads: usize,
 }
 
 impl Running {
-    /// No node has ended, of so many partitions of so many replicas. The error is that memory was refused.
-    pub fn new(alloc: Global, parts: u16, replicas: u8) -> Result<Running, AllocError> {
+    /// No node has ended, of so many partitions of so many replicas, each of which may use so many threads. The error is
+    /// that memory was refused.
+    pub fn new(
+        alloc: Global,
+        parts: u16,
+        replicas: u8,
+        threads: usize,
+    ) -> Result<Running, AllocError> {
         Ok(Running {
             ended: zeros(alloc, usize::from(parts))?,
             replicas: u32::from(replicas),
+            threads,
         })
+    }
+
+    /// How many threads a node may use.
+    pub fn threads(&self) -> usize {
+        self.threads
     }
 
     /// A node of the partition has ended before the end of the run, or never had a thread.

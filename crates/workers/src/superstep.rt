@@ -29,6 +29,7 @@ use batches::Batch;
 use replica::{ChangedRows, Replica, Shown, Snapshot};
 use std::alloc::{AllocError, AllocGlobal, Global};
 use std::sync::{Arc, Wait};
+use std::thread::Threads;
 
 /// How a superstep of a node ends.
 #[derive(Clone, Copy)]
@@ -352,7 +353,13 @@ fn hear_all<R: AllocGlobal + Wait, E: Exchange, G: Gate>(
 }
 
 // Goes on from a superstep whose level is held.
-fn close<G: Gate>(gate: &G, node: NodeId, replica: &mut Replica) -> SuperstepEnd
+fn close<R: Threads + Sync, G: Gate>(
+    rt: &R,
+    threads: usize,
+    gate: &G,
+    node: NodeId,
+    replica: &mut Replica,
+) -> SuperstepEnd
     requires held { missing_in replica.old ≡ None }
     ensures stands { (j : Job) (p t : ℕ) → StandsFor j p t replica.old →
         StandsFor j p replica.new.superstep replica.new }
@@ -364,7 +371,7 @@ fn close<G: Gate>(gate: &G, node: NodeId, replica: &mut Replica) -> SuperstepEnd
 {
     // the limits of a replica are told with its superstep
     let _superstep = replica.superstep();
-    match replica.close() {
+    match replica.close_by(rt, threads) {
         Ok(reached) => {
             gate.after_close(node, reached, replica.changed_count());
             SuperstepEnd::Next
@@ -374,12 +381,13 @@ fn close<G: Gate>(gate: &G, node: NodeId, replica: &mut Replica) -> SuperstepEnd
 }
 
 /// A superstep of a node: it keeps what it has, tells all others, takes what they tell, and goes on.
-pub fn run_superstep<R: AllocGlobal + Wait, E: Exchange, G: Gate>(
+pub fn run_superstep<R: AllocGlobal + Threads + Wait + Sync, E: Exchange, G: Gate>(
     rt: &R,
     exchange: &mut E,
     gate: &G,
     node: NodeId,
     orders: &NodeOrders,
+    threads: usize,
     tables: &mut SharedTables,
     replica: &mut Replica,
 ) -> Result<SuperstepEnd, NodeError>
@@ -404,7 +412,7 @@ pub fn run_superstep<R: AllocGlobal + Wait, E: Exchange, G: Gate>(
     drop_old(rt, exchange, orders.keep, replica.superstep())?;
     Ok(
         match hear_all(rt, exchange, gate, node, orders.patience, replica)? {
-            Found::Level => close(gate, node, replica),
+            Found::Level => close(rt, threads, gate, node, replica),
             Found::Further => SuperstepEnd::Next,
             Found::Missed { source } => SuperstepEnd::Starved { source },
         },

@@ -8,6 +8,7 @@ mod rows;
 mod runs;
 mod schedules;
 mod tables;
+mod threads;
 
 ghost use Rattle.std.specs.Arc.{arc_value};
 ghost use Rattle.std.specs.Prelude.{◌≡◌, ◌<◌, ◌≤◌, IfSome};
@@ -24,6 +25,7 @@ use std::random::RandomSource;
 use std::sync::atomic::{AtomicU32, Ordering};
 use std::sync::{Arc, Wait};
 use std::test::Fail;
+use std::thread::Threads;
 
 const TWO_EDGES: &[u8] = b"a\tb\nb\tc\n";
 
@@ -60,7 +62,7 @@ fn shared_part(alloc: Global, graph: &Graph, plan: &Plan, p: u16) -> Option<Arc<
 }
 
 /// How a node of the job ends that is alone at a board of so many entries.
-fn alone<R: AllocGlobal + Wait, G: Gate>(
+fn alone<R: AllocGlobal + Threads + Wait + Sync, G: Gate>(
     rt: &R,
     graph: &Graph,
     plan: &Plan,
@@ -103,7 +105,7 @@ fn told(end: &Result<NodeEnd, NodeError>) -> Outcome {
 }
 
 /// How a node of the graph in so many partitions ends that is alone.
-fn alone_in<R: AllocGlobal + Wait, G: Gate>(
+fn alone_in<R: AllocGlobal + Threads + Wait + Sync, G: Gate>(
     rt: &R,
     graph: &Graph,
     node: NodeId,
@@ -122,7 +124,7 @@ fn alone_in<R: AllocGlobal + Wait, G: Gate>(
 }
 
 /// How the one node of the two edges in one partition ends.
-fn lone<R: AllocGlobal + RandomSource + Wait>(
+fn lone<R: AllocGlobal + RandomSource + Threads + Wait + Sync>(
     rt: &R,
     entries: u32,
     lose: Option<u32>,
@@ -165,7 +167,7 @@ static LONE: [(u32, Option<u32>, Option<u32>, Outcome); 8] = [
 ];
 
 /// Whether the lone node ends so each time.
-fn lone_ends<R: AllocGlobal + RandomSource + Wait>(rt: &R) -> bool {
+fn lone_ends<R: AllocGlobal + RandomSource + Threads + Wait + Sync>(rt: &R) -> bool {
     let mut all = true;
     for (entries, lose, restart, end) in &LONE {
         all &= lone(rt, (*entries).clamp(2, 64), *lose, *restart) == Some(*end);
@@ -195,7 +197,10 @@ impl Gate for CountingGate {
 }
 
 /// How node 1.0 of the two edges in two partitions ends where nobody else posts.
-fn unheard<R: AllocGlobal + RandomSource + Wait>(rt: &R, gate: &CountingGate) -> Option<Outcome> {
+fn unheard<R: AllocGlobal + RandomSource + Threads + Wait + Sync>(
+    rt: &R,
+    gate: &CountingGate,
+) -> Option<Outcome> {
     let node = NodeId {
         part: 1,
         replica: 0,
@@ -211,7 +216,7 @@ fn unheard<R: AllocGlobal + RandomSource + Wait>(rt: &R, gate: &CountingGate) ->
 }
 
 /// Whether it waits in vain for the other partition, for ten idle turns.
-fn starves<R: AllocGlobal + RandomSource + Wait>(rt: &R) -> bool {
+fn starves<R: AllocGlobal + RandomSource + Threads + Wait + Sync>(rt: &R) -> bool {
     let gate = CountingGate {
         turns: AtomicU32::new(0),
     };

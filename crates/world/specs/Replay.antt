@@ -3,12 +3,11 @@ use Rattle.std.specs.Prelude.{◌≡◌, ◌≢◌, ⊤, ℕ, List, Option, Resu
 use Rattle.std.specs.Borrow.{Bor}
 use Rattle.std.specs.Io.KnownBytes.{Keeps}
 use Rattle.ball_model.specs.declared.world.Event.{Event}
-use Rattle.ball_model.specs.PlanValue.{plan_of}
 use Rattle.ball_model.specs.Job.{Job}
 use Rattle.ball_model.specs.Input.{Network, Refusal}
 use Rattle.ball_model.specs.Counting.{CountedRefusal}
 use Rattle.ball_model.specs.RunText.{ArePlain, AreRead, HasPlan, Numbers, Settings}
-use Rattle.ball_model.specs.RunText.{counted_in, list_in, network_in, plan_over}
+use Rattle.ball_model.specs.RunText.{counted_in, list_in, network_in, plan_asked, plan_over}
 use Rattle.ball_model.specs.Streams.{Rises}
 use Rattle.ball_model.specs.World.{World, start_world}
 use Rattle.ball_model.specs.WorldText.{AreReplicas, HasCommands, IsReplayText, IsReplayPlanFault}
@@ -109,7 +108,7 @@ RefusesStart n network fault.Options = ⊥
 RefusesStart n network (fault.Script line) = ⊥
 RefusesStart n network (fault.Edges e) = ⊥
 RefusesStart n network (fault.Counted e) = ⊥
-RefusesStart n network (fault.Plan e) = plan_of (plan_over n network.graph) ≡ Err e
+RefusesStart n network (fault.Plan e) = plan_asked n network.graph ≡ Err e
 RefusesStart n network fault.Memory = HasPlan n network
 RefusesStart n network fault.Write = ⊥
 

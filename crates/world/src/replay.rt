@@ -3,8 +3,7 @@
 ghost use Rattle.std.specs.Prelude.{◌≡◌, ◌≢◌, ℕ, List, Ok, Err, IfErr, IfOk, IfSome, OnOk, length};
 ghost use Rattle.ball_model.specs.Job.{IsJob, job_of};
 ghost use Rattle.ball_model.specs.Input.{IsPlain, records};
-ghost use Rattle.ball_model.specs.PlanValue.{plan_of};
-ghost use Rattle.ball_model.specs.RunText.{ArePlain, AreRead, list_in, plan_over};
+ghost use Rattle.ball_model.specs.RunText.{ArePlain, AreRead, list_in, plan_asked};
 ghost use Rattle.ball_model.specs.WorldText.{AppendsReplay, HasCommands};
 ghost use Rattle.edgelist.specs.Counting.{RefusesList};
 ghost use Rattle.edgelist.specs.Reading.{Refuses, byte_of};
@@ -223,7 +222,7 @@ fn read_network(
 
 // The plan of a replay over a graph, or the first fault of the options.
 fn plan_for(graph: &Graph, options: &ReplayOptions) -> Result<Plan, PlanError>
-    ensures value { result ≡ plan_of (plan_over (replay_numbers_of options.now) graph.now.graph) }
+    ensures value { result ≡ plan_asked (replay_numbers_of options.now) graph.now.graph }
     ensures job { IfOk result (λ plan. IsJob (job_of graph.now.graph plan)) }
 {
     let ReplayOptions {

@@ -90,7 +90,7 @@ fn two_threads_post(rt: HostRuntime) {
 #[test]
 fn threads_at_one_board(rt: HostRuntime) {
     let mut right = true;
-    for others in [3, 7, 15u8] {
+    for others in [3, 7, 15, 63u8] {
         right &= is_right_crowd(&rt, others, 4) == Some(true);
     }
     assert!(rt; right);

@@ -81,9 +81,16 @@ fn digests(graph: &Graph) -> Result<[[u8; 32]; 2], PlanError> {
     Ok([graph.digest(&raw), graph.digest(&corrected)])
 }
 
+// The same of large plans.
+fn large_digests(graph: &Graph) -> Result<[[u8; 32]; 2], PlanError> {
+    let raw = graph.large_plan(Estimate::Raw, 4, 0, 2, 4096)?;
+    let corrected = graph.large_plan(Estimate::Corrected, 4, 0, 2, 4096)?;
+    Ok([graph.digest(&raw), graph.digest(&corrected)])
+}
+
 // Whether a graph has these job digests, whichever way they are made.
 fn are_jobs(graph: &Graph, wanted: [[u8; 32]; 2]) -> bool {
-    jobs(graph) == Ok(wanted) && digests(graph) == Ok(wanted)
+    jobs(graph) == Ok(wanted) && digests(graph) == Ok(wanted) && large_digests(graph) == Ok(wanted)
 }
 
 // An edge list with tabs, a list, and the job digests of its graph then.

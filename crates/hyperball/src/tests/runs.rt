@@ -51,8 +51,8 @@ const LOST_0: &[u8] = b"hyperball: every replica of partition 0 was lost\n";
 
 const LOST_1: &[u8] = b"hyperball: every replica of partition 1 was lost\n";
 
-// The report is the same for every number of partitions, and where nodes are lost or start anew.
-static PARTITIONS: [&str; 26] = [
+// The report is the same for every number of partitions and of threads, and where nodes are lost or start anew.
+static PARTITIONS: [&str; 31] = [
     "hyperball run --log2m 4 --parts 1",
     "hyperball run --log2m 4 --parts 2",
     "hyperball run --log2m 4 --parts 3",
@@ -63,6 +63,12 @@ static PARTITIONS: [&str; 26] = [
     "hyperball run --log2m 4 --parts 2 --replicas 2 --lose 0.0@9,0.0@1,0.1@1",
     "hyperball run --log2m 4 --parts 2 --restart 0.0@2",
     "hyperball run --log2m 4 --parts 2 --restart 0.0@2 --keep 0",
+    // so many threads, fewer and more than there are vertices or replicas
+    "hyperball run --log2m 4 --threads 1",
+    "hyperball run --log2m 4 --threads 2 --large",
+    "hyperball run --log2m 4 --parts 2 --threads 3",
+    "hyperball run --log2m 4 --parts 3 --replicas 2 --threads 8",
+    "hyperball run --log2m 4 --parts 2 --replicas 2 --threads 1024 --lose 0.0@1",
     // each of the four nodes of two partitions is lost at each superstep
     "hyperball run --log2m 4 --parts 2 --replicas 2 --lose 0.0@0",
     "hyperball run --log2m 4 --parts 2 --replicas 2 --lose 0.0@1",

@@ -125,10 +125,14 @@ const RUN_HELP: Pieces = &[
     b"one snapshot to the next",
     b"--patience <",
     b"Idle turns",
+    b"--threads <",
+    b"Threads that work at once",
     b"--lose <",
     b"that are lost",
     b"--restart <",
     b"start anew",
+    b"--large",
+    b"2^32 - 1 records",
     b"--progress",
     b"each superstep",
     b"hyperball run --log2m 8 < edges.tsv > report.csv",
@@ -152,6 +156,8 @@ const NODE_HELP: Pieces = &[
     b"Count only",
     b"--part <",
     b"Partition of this node",
+    b"--large",
+    b"2^32 - 1 records",
     b"--progress",
     b"close or checkpoint",
     b"| hyperball node --log2m 4",
@@ -178,6 +184,8 @@ const GATHER_HELP: Pieces = &[
     b"What stands between",
     b"--counted\n ",
     b"Count only",
+    b"--large",
+    b"2^32 - 1 records",
     b"--progress",
     b"close or checkpoint",
     b"hyperball gather --parts 2 > report.csv",
@@ -222,7 +230,7 @@ pub const VERSION: Case = ("hyperball --version", &[], 0, &[b"hyperball 0.1.0\n"
 pub const ORDERS: &[u8] = b"hyperball: an order is P.K@S, with commas between orders\n";
 
 /// Words that ask for the version, or are refused.
-static MISTAKES: [Case; 34] = [
+static MISTAKES: [Case; 37] = [
     VERSION,
     (
         "hyperball",
@@ -407,6 +415,27 @@ static MISTAKES: [Case; 34] = [
         b"error: unexpected argument '--part'",
     ),
     (
+        "hyperball run --threads 1025",
+        &[b"a\tb\n"],
+        2,
+        &[],
+        b"error: invalid value '1025' for '--threads <threads>'",
+    ),
+    (
+        "hyperball node --threads 2",
+        &[b"a\tb\n"],
+        2,
+        &[],
+        b"error: unexpected argument '--threads'",
+    ),
+    (
+        "hyperball replay --large",
+        &[b"a\tb\n"],
+        2,
+        &[],
+        b"error: unexpected argument '--large'",
+    ),
+    (
         "hyperball node --progress=1",
         &[b"a\tb\n"],
         2,
@@ -436,10 +465,12 @@ const SAID: RunWords = RunWords {
         limit: 4096,
         estimate: Estimate::Corrected,
         delimiter: Delimiter::Space,
+        large: true,
         replicas: 2,
         entries: 1_048_576,
         keep: 0,
         patience: 7,
+        threads: 1024,
     },
     counted: true,
 };
@@ -452,6 +483,19 @@ const JOB: JobOptions = JobOptions {
     limit: 4096,
     estimate: Estimate::Raw,
     delimiter: Delimiter::Tab,
+    large: false,
+    counted: false,
+};
+
+/// The same of a large edge list.
+const LARGE_JOB: JobOptions = JobOptions {
+    log2m: 8,
+    seed: 0,
+    parts: 1,
+    limit: 4096,
+    estimate: Estimate::Raw,
+    delimiter: Delimiter::Tab,
+    large: true,
     counted: false,
 };
 
@@ -493,10 +537,10 @@ fn says(alloc: Global, line: &str, reading: &Reading) -> bool {
 }
 
 /// Words, and what they are read as.
-static READINGS: [(&str, Reading); 6] = [
+static READINGS: [(&str, Reading); 8] = [
     (
         "hyperball run --seed 7 --estimate corrected --delimiter space --counted --replicas 2 --keep 0 \
-        --patience 7 --lose 0.1@999999999 --restart 65535.255@0,1.0@10",
+        --patience 7 --threads 1024 --lose 0.1@999999999 --restart 65535.255@0,1.0@10 --large",
         Reading::Run(
             SAID,
             &[(
@@ -560,6 +604,21 @@ static READINGS: [(&str, Reading); 6] = [
         Reading::Gather(GatherWords {
             options: JOB,
             progress: true,
+        }),
+    ),
+    (
+        "hyperball node --large",
+        Reading::Node(NodeWords {
+            options: LARGE_JOB,
+            part: 0,
+            progress: false,
+        }),
+    ),
+    (
+        "hyperball gather --large",
+        Reading::Gather(GatherWords {
+            options: LARGE_JOB,
+            progress: false,
         }),
     ),
 ];

@@ -35,34 +35,28 @@ pub(super) struct Gathering {
 /// How a gathering ends that reads this. What it writes goes to the writer.
 fn end_of_gathering<T: AllocGlobal + RandomSource + Threads + Sync, V: Watch>(
     rt: &T,
-    parts: u16,
+    options: &JobOptions,
     input: &[u8],
     watch: &V,
     writer: &mut MemWriter,
 ) -> Option<Result<(), GatherError>> {
     let state = RandomState::new(rt).ok()?;
     let mut reader = MemReader::new(input, None);
-    Some(gather(
-        rt,
-        state,
-        &options(parts, false),
-        watch,
-        &mut reader,
-        writer,
-    ))
+    Some(gather(rt, state, options, watch, &mut reader, writer))
 }
 
-/// Whether a gathering that reads this writes and ends as the case says.
-fn gives<T: AllocGlobal + RandomSource + Threads + Sync, V: Watch>(
+/// Whether a gathering of such a job that reads this writes and ends as the case says.
+pub(super) fn gives<T: AllocGlobal + RandomSource + Threads + Sync, V: Watch>(
     rt: &T,
     case: &Gathering,
+    options: &JobOptions,
     input: &[u8],
     watch: &V,
 ) -> bool {
     let Ok(mut writer) = MemWriter::with_room(rt.alloc(), 4096, None) else {
         return false;
     };
-    let end = end_of_gathering(rt, case.parts, input, watch, &mut writer);
+    let end = end_of_gathering(rt, options, input, watch, &mut writer);
     let text = writer.into_bytes();
     end == Some(case.end) && text.as_slice() == case.text
 }
@@ -74,7 +68,7 @@ pub(super) fn gathers<T: AllocGlobal + RandomSource + Threads + Sync, V: Watch>(
     watch: &V,
 ) -> bool {
     match joined(rt.alloc(), case.input) {
-        Ok(input) => gives(rt, case, &input, watch),
+        Ok(input) => gives(rt, case, &options(case.parts, false), &input, watch),
         Err(_) => false,
     }
 }

@@ -1,5 +1,5 @@
 -- What a replica shows fits its part.
-use Rattle.std.proofs.Common.{◌≡◌, ℕ, zero, suc, ◌+◌, ◌*◌, ◌^◌, ◌<◌, ◌≤◌, List, [], ◌∷◌, ◌++◌, length, map, get_or, sym, ◌∙◌, subst, arith, IfSome}
+use Rattle.std.proofs.Common.{◌≡◌, ℕ, zero, suc, ◌+◌, ◌*◌, ◌^◌, ◌<◌, ◌≤◌, List, [], ◌∷◌, ◌++◌, length, map, get_or, sym, subst, arith, IfSome}
 use Rattle.replica.proofs.Names.{Option, Some, None, All, BatchValue, kept_batches, PartValue, PlanValue, IsPlan, State, early_at}
 use Rattle.replica.proofs.AheadLemmas.{batches_in}
 use Rattle.replica.specs.declared.saved.Saved.{Saved}

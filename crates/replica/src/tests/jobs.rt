@@ -27,7 +27,7 @@ pub const TWO_EDGES: Job = Job {
 };
 
 /// The graph of an edge list with tabs.
-fn graph(rt: &HostRuntime, text: &[u8]) -> Option<Graph> {
+pub fn graph(rt: &HostRuntime, text: &[u8]) -> Option<Graph> {
     let limits = EdgeLimits {
         vertices: 100,
         edges: 100,

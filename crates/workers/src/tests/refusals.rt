@@ -7,7 +7,10 @@ use edgelist::EdgeError;
 use std::thread::Threads;
 
 /// Whether the lone node is done, starting anew at a superstep or not: at once, or when it is run again.
-fn is_done<R: AllocGlobal + RandomSource + Wait>(rt: &R, restart: Option<u32>) -> bool {
+fn is_done<R: AllocGlobal + RandomSource + Threads + Wait + Sync>(
+    rt: &R,
+    restart: Option<u32>,
+) -> bool {
     let first = lone(rt, 64, None, restart);
     let refused = matches!(first, Some(Outcome::NoMemory) | None);
     let end = if refused {

@@ -25,6 +25,8 @@ pub struct Asked<'a> {
     pub counted: Option<&'a [u8]>,
     pub estimate: Estimate,
     pub delimiter: Delimiter,
+    pub large: bool,
+    pub threads: u16,
     pub parts: u16,
     pub replicas: u8,
     pub limit: u32,
@@ -41,6 +43,8 @@ pub const USUAL: Asked<'static> = Asked {
     counted: None,
     estimate: Estimate::Raw,
     delimiter: Delimiter::Tab,
+    large: false,
+    threads: 0,
     parts: 1,
     replicas: 1,
     limit: 4096,
@@ -63,6 +67,8 @@ fn options_of(alloc: Global, asked: &Asked) -> Option<RunOptions> {
         limit: asked.limit,
         estimate: asked.estimate,
         delimiter: asked.delimiter,
+        large: asked.large,
+        threads: asked.threads,
         replicas: asked.replicas,
         entries: asked.entries,
         keep: asked.keep,
@@ -91,6 +97,17 @@ fn run_into<R: AllocGlobal + RandomSource + Threads + Wait + Sync, G: Gate + Syn
     };
     let mut reader = MemReader::new(asked.input, read_fails);
     run(rt, state, &mut reader, asked.counted, writer, options, gate)
+}
+
+/// The report of a run, where there is one of at most 512 KiB.
+pub fn bytes_of<R: AllocGlobal + RandomSource + Threads + Wait + Sync>(
+    rt: &R,
+    asked: &Asked,
+) -> Option<Vec<u8>> {
+    let options = options_of(rt.alloc(), asked)?;
+    let mut writer = MemWriter::with_room(rt.alloc(), 524_288, None).ok()?;
+    run_into(rt, asked, &options, &OpenGate, None, &mut writer).ok()?;
+    Some(writer.into_bytes())
 }
 
 /// What is written of a report.
@@ -249,6 +266,15 @@ fn any_node_lost_at_any_superstep(rt: HostRuntime) {
 #[test]
 fn five_partitions(rt: HostRuntime) {
     let asked = Asked { parts: 5, ..USUAL };
+    assert!(rt; reports(&rt, &asked, REPORT));
+}
+
+#[test]
+fn large_edge_list(rt: HostRuntime) {
+    let asked = Asked {
+        large: true,
+        ..USUAL
+    };
     assert!(rt; reports(&rt, &asked, REPORT));
 }
 

@@ -12,8 +12,8 @@ store-requires c =
     let has : c.exchange-left.new.seat.me ≡ (c.args.pass.now.me.0, (0, Some c.args.book) ∷ []) = x.3 ∙ ap (λ (xs : List (ℕ × Option History)). (c.args.pass.now.me.0, (0, Some c.args.book) ∷ rest xs)) c.requires.turn.1 in
     (x.0 ∙ c.requires.table.1, omega (arith, c.requires.table.0.0), writes_at _ _ _ c.args.pass.now.me.0 c.args.book _ has (c.from-length.ensures ∙ c.entries.ensures.entries) c.requires.turn.0 c.requires.next)
 
-pub fetch_add-requires : goal.fetch_add-requires
-fetch_add-requires c =
+pub fetch_add-served-requires : goal.fetch_add-served-requires
+fetch_add-served-requires c =
     let x = c.exchange-left.ensures in
     let s = c.store.ensures in
     let has : c.exchange-left.new.seat.me ≡ (c.args.pass.now.me.0, (0, Some c.args.book) ∷ []) = x.3 ∙ ap (λ (xs : List (ℕ × Option History)). (c.args.pass.now.me.0, (0, Some c.args.book) ∷ rest xs)) c.requires.turn.1 in

@@ -19,6 +19,7 @@ returns-clause-usual c = record {
     refl,
     record {
       options = record { log2m = refl; seed = refl; parts = refl; limit = refl; estimate = refl; delimiter = refl; counted = refl };
+      large = refl;
       part = refl;
       progress = refl;
     },
@@ -26,7 +27,7 @@ returns-clause-usual c = record {
 }
 
 abbrev third_line : List Text
-third_line = codes "hyperball" ∷ codes "node" ∷ codes "--log2m" ∷ codes "4" ∷ codes "--parts=3" ∷ codes "--part" ∷ codes "2" ∷ codes "--counted" ∷ []
+third_line = codes "hyperball" ∷ codes "node" ∷ codes "--log2m" ∷ codes "4" ∷ codes "--parts=3" ∷ codes "--part" ∷ codes "2" ∷ codes "--counted" ∷ codes "--large" ∷ []
 
 pub returns-clause-third : goal.returns-clause-third
 unfolding clap_on_literals hyperball_app gather_app node_app replay_app run_app
@@ -45,6 +46,7 @@ returns-clause-third c = record {
         delimiter = refl;
         counted = refl;
       };
+      large = refl;
       part = record { numeral = (lit< tt, (lit< tt, tt)); value = refl; fits = lit< tt };
       progress = refl;
     },
@@ -52,7 +54,7 @@ returns-clause-third c = record {
 }
 
 abbrev gather_line : List Text
-gather_line = codes "hyperball" ∷ codes "gather" ∷ codes "--parts=3" ∷ codes "--estimate" ∷ codes "corrected" ∷ codes "--delimiter=comma" ∷ []
+gather_line = codes "hyperball" ∷ codes "gather" ∷ codes "--parts=3" ∷ codes "--estimate" ∷ codes "corrected" ∷ codes "--delimiter=comma" ∷ codes "--large" ∷ []
 
 pub returns-clause-gather : goal.returns-clause-gather
 unfolding clap_on_literals hyperball_app gather_app node_app replay_app run_app
@@ -71,6 +73,7 @@ returns-clause-gather c = record {
         delimiter = refl;
         counted = refl;
       };
+      large = refl;
       progress = refl;
     },
   ));
@@ -88,6 +91,7 @@ returns-clause-telling c = record {
     refl,
     record {
       options = record { log2m = refl; seed = refl; parts = refl; limit = refl; estimate = refl; delimiter = refl; counted = refl };
+      large = refl;
       part = refl;
       progress = refl;
     },
@@ -106,6 +110,7 @@ returns-clause-telling_gather c = record {
     refl,
     record {
       options = record { log2m = refl; seed = refl; parts = refl; limit = refl; estimate = refl; delimiter = refl; counted = refl };
+      large = refl;
       progress = refl;
     },
   ));

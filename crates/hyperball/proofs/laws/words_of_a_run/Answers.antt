@@ -36,10 +36,12 @@ returns-clause-nodes c = record {
       limit = refl;
       estimate = refl;
       delimiter = refl;
+      large = refl;
       replicas = record { numeral = (lit< tt, (lit< tt, tt)); value = refl; fits = lit< tt };
       entries = refl;
       keep = record { numeral = (lit< tt, (lit< tt, tt)); value = refl; fits = lit< tt };
       patience = refl;
+      threads = refl;
       counted = refl;
     },
   ));
@@ -59,10 +61,12 @@ returns-clause-log2m c = record {
       limit = refl;
       estimate = refl;
       delimiter = refl;
+      large = refl;
       replicas = refl;
       entries = refl;
       keep = refl;
       patience = refl;
+      threads = refl;
       counted = refl;
     },
   ));
@@ -82,10 +86,12 @@ returns-clause-limit c = record {
       limit = record { numeral = (lit< tt, (lit< tt, (lit< tt, (lit< tt, (lit< tt, tt))))); value = refl; fits = lit< tt };
       estimate = refl;
       delimiter = refl;
+      large = refl;
       replicas = refl;
       entries = refl;
       keep = refl;
       patience = refl;
+      threads = refl;
       counted = refl;
     },
   ));
@@ -105,10 +111,12 @@ returns-clause-estimate c = record {
       limit = refl;
       estimate = refl;
       delimiter = refl;
+      large = refl;
       replicas = refl;
       entries = refl;
       keep = refl;
       patience = refl;
+      threads = refl;
       counted = refl;
     },
   ));
@@ -128,17 +136,19 @@ returns-clause-counted c = record {
       limit = refl;
       estimate = refl;
       delimiter = refl;
+      large = refl;
       replicas = refl;
       entries = refl;
       keep = refl;
       patience = refl;
+      threads = refl;
       counted = refl;
     },
   ));
 }
 
 abbrev board_line : List Text
-board_line = codes "hyperball" ∷ codes "run" ∷ codes "--entries" ∷ codes "64" ∷ codes "--patience=10" ∷ codes "--restart" ∷ codes "0.0@2" ∷ []
+board_line = codes "hyperball" ∷ codes "run" ∷ codes "--entries" ∷ codes "64" ∷ codes "--patience=10" ∷ codes "--restart" ∷ codes "0.0@2" ∷ codes "--threads" ∷ codes "2" ∷ codes "--large" ∷ []
 
 pub returns-clause-board : goal.returns-clause-board
 unfolding clap_on_literals hyperball_app gather_app node_app replay_app run_app
@@ -154,10 +164,12 @@ returns-clause-board c = record {
       limit = refl;
       estimate = refl;
       delimiter = refl;
+      large = refl;
       replicas = refl;
       entries = record { numeral = (lit< tt, (lit< tt, (lit< tt, tt))); value = refl; fits = lit< tt };
       keep = refl;
       patience = record { numeral = (lit< tt, (lit< tt, (lit< tt, tt))); value = refl; fits = lit< tt };
+      threads = record { numeral = (lit< tt, (lit< tt, tt)); value = refl; fits = lit< tt };
       counted = refl;
     },
   ));

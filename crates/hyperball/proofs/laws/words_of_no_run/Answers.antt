@@ -12,7 +12,7 @@ returns-clause-help c = record { are = of_names (λ p. fault_of (hyperball_app p
 
 pub returns-clause-unknown : goal.returns-clause-unknown
 unfolding clap_on_literals hyperball_app gather_app node_app replay_app run_app
-returns-clause-unknown c = record { are = of_names (λ p. fault_of (hyperball_app p) (codes "hyperball" ∷ codes "run" ∷ codes "--threads" ∷ codes "2" ∷ []) ≡ UnknownArgument ∷ []) (λ at. refl) }
+returns-clause-unknown c = record { are = of_names (λ p. fault_of (hyperball_app p) (codes "hyperball" ∷ codes "run" ∷ codes "--part" ∷ codes "0" ∷ []) ≡ UnknownArgument ∷ []) (λ at. refl) }
 
 pub returns-clause-number : goal.returns-clause-number
 unfolding clap_on_literals hyperball_app gather_app node_app replay_app run_app
@@ -21,3 +21,7 @@ returns-clause-number c = record { are = of_names (λ p. fault_of (hyperball_app
 pub returns-clause-name : goal.returns-clause-name
 unfolding clap_on_literals hyperball_app gather_app node_app replay_app run_app
 returns-clause-name c = record { are = of_names (λ p. fault_of (hyperball_app p) (codes "hyperball" ∷ codes "run" ∷ codes "--delimiter" ∷ codes "semicolon" ∷ []) ≡ InvalidValue ∷ []) (λ at. refl) }
+
+pub returns-clause-threads : goal.returns-clause-threads
+unfolding clap_on_literals hyperball_app gather_app node_app replay_app run_app
+returns-clause-threads c = record { are = of_names (λ p. fault_of (hyperball_app p) (codes "hyperball" ∷ codes "run" ∷ codes "--threads" ∷ codes "1025" ∷ []) ≡ ValueValidation ∷ []) (λ at. refl) }

@@ -8,6 +8,6 @@ pub returns-clause-options : goal.returns-clause-options
 returns-clause-options c = λ w h.
     let f = found_of c.args.matches.now in
     same_node_words _ _ _ w
-    (c.job_options_of.ensures w.options h.options)
+    (c.job_options_of.ensures w.options h.options (c.wants_large.ensures w.options.large h.large))
     (c.unwrap_or.ensures ∙ number_is (λ t r. ExplainsUnsignedError 10 t r) (λ t r. HasUnsignedDigitsIfOk t r) f (codes "part") 0 16 w.part c.get_one.result c.get_one.ensures.none c.get_one.ensures.value h.part)
     (c.wants_progress.ensures w.progress h.progress)

@@ -1,4 +1,4 @@
-use Rattle.std.proofs.Common.{◌≡◌, ◌∙◌, ap, codes}
+use Rattle.std.proofs.Common.{◌≡◌, ◌∙◌, ap, codes, false, refl}
 use Rattle.std.specs.Str.Parse.{ExplainsUnsignedError, HasUnsignedDigitsIfOk}
 use Rattle.clap.specs.Words.{found_of}
 use Rattle.node.specs.declared.job.JobOptions.{JobOptions}
@@ -15,6 +15,7 @@ job_in w = record {
   limit = w.options.limit;
   estimate = w.options.estimate;
   delimiter = w.options.delimiter;
+  large = false;
   counted = w.counted;
 }
 
@@ -29,7 +30,7 @@ returns-clause-options c = λ w h.
       estimate = h.estimate;
       delimiter = h.delimiter;
       counted = h.counted;
-    }) in
+    }) refl in
     same_replay_words _ _ _ _ _ _ _ _ _ w
     (ap (λ (o : JobOptions). o.log2m) job)
     (ap (λ (o : JobOptions). o.seed) job)

@@ -15,6 +15,7 @@ job_in w = record {
   limit = w.options.limit;
   estimate = w.options.estimate;
   delimiter = w.options.delimiter;
+  large = w.options.large;
   counted = w.counted;
 }
 
@@ -29,16 +30,18 @@ returns c = λ w h.
       estimate = h.estimate;
       delimiter = h.delimiter;
       counted = h.counted;
-    }) in
-    same_words _ _ _ _ _ _ _ _ _ _ _ w
+    }) (c.wants_large.ensures w.options.large h.large) in
+    same_words _ _ _ _ _ _ _ _ _ _ _ _ _ w
     (ap (λ (o : JobOptions). o.log2m) job)
     (ap (λ (o : JobOptions). o.seed) job)
     (ap (λ (o : JobOptions). o.parts) job)
     (ap (λ (o : JobOptions). o.limit) job)
     (ap (λ (o : JobOptions). o.estimate) job)
     (ap (λ (o : JobOptions). o.delimiter) job)
+    (ap (λ (o : JobOptions). o.large) job)
     (c.unwrap_or.ensures ∙ number_is (λ t r. ExplainsUnsignedError 10 t r) (λ t r. HasUnsignedDigitsIfOk t r) f (codes "replicas") 1 8 w.options.replicas c.get_one.result c.get_one.ensures.none c.get_one.ensures.value h.replicas)
     (c.unwrap_or-2.ensures ∙ number_is (λ t r. ExplainsUnsignedError 10 t r) (λ t r. HasUnsignedDigitsIfOk t r) f (codes "entries") 1048576 32 w.options.entries c.get_one-2.result c.get_one-2.ensures.none c.get_one-2.ensures.value h.entries)
     (c.unwrap_or-3.ensures ∙ number_is (λ t r. ExplainsUnsignedError 10 t r) (λ t r. HasUnsignedDigitsIfOk t r) f (codes "keep") 1 32 w.options.keep c.get_one-3.result c.get_one-3.ensures.none c.get_one-3.ensures.value h.keep)
     (c.unwrap_or-4.ensures ∙ number_is (λ t r. ExplainsUnsignedError 10 t r) (λ t r. HasUnsignedDigitsIfOk t r) f (codes "patience") 1000000 32 w.options.patience c.get_one-4.result c.get_one-4.ensures.none c.get_one-4.ensures.value h.patience)
+    (c.unwrap_or-5.ensures ∙ number_is (λ t r. ExplainsUnsignedError 10 t r) (λ t r. HasUnsignedDigitsIfOk t r) f (codes "threads") 0 16 w.options.threads c.get_one-5.result c.get_one-5.ensures.none c.get_one-5.ensures.value h.threads)
     (ap (λ (o : JobOptions). o.counted) job)

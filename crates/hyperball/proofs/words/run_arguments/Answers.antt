@@ -12,6 +12,8 @@ returns c = λ app.
       c.option-4.ensures,
       c.option-5.ensures,
       c.option-6.ensures,
+      c.option-7.ensures,
+      c.large.ensures,
       c.progress.ensures,
       c.value_parser.ensures,
       c.value_parser-2.ensures,

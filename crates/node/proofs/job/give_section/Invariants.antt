@@ -1,15 +1,15 @@
 use Rattle.std.proofs.Common.{◌≡◌, []}
 use Rattle.std.specs.Io.KnownBytes.{prepend_known}
-use Rattle.edgelist.specs.Given.{IsGiven}
+use Rattle.ball_model.specs.Input.{Limits}
+use Rattle.edgelist.specs.Given.{IsGivenUnder}
 use Rattle.edgelist.specs.declared.read.Delimiter.{Delimiter}
-use Rattle.edgelist.specs.declared.read.TheConstants.{LIMITS}
 use Rattle.node.proofs.JobLemmas.{GivesSoFar}
 use Rattle.node.proofs.job.give_section.Given as goal
 
 abbrev pub invariant-loop-count : goal.invariant-loop-count
 invariant-loop-count g l = record {
   so :
-      (delimiter : Delimiter) → IsGiven LIMITS delimiter [] l.initial.edges →
-      GivesSoFar LIMITS delimiter l._count l.cut.begins (g.R.Read.remaining l.initial.reader) (prepend_known l.cut.ahead.items (g.R.Read.remaining l.reader)) l.edges;
+      (limits : Limits) (delimiter : Delimiter) → IsGivenUnder limits delimiter [] l.initial.edges →
+      GivesSoFar limits delimiter l._count l.cut.begins (g.R.Read.remaining l.initial.reader) (prepend_known l.cut.ahead.items (g.R.Read.remaining l.reader)) l.edges;
   counted : g.R.CountedRead.failed_calls l.reader ≡ g.R.CountedRead.failed_calls l.initial.reader;
 }

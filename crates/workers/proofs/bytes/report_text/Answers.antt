@@ -7,7 +7,6 @@ use Rattle.workers.specs.Job.{IsFaultOf}
 use Rattle.workers.specs.Options.{run_numbers_of}
 use Rattle.workers.specs.Run.{IsFaultIn, job_fault}
 use Rattle.ball_model.specs.PlanValue.{PlanValue}
-use Rattle.ball_model.specs.RunText.{plan_over}
 use Rattle.edgelist.specs.Planning.{signed}
 use Rattle.workers.proofs.RunLemmas.{planned, refuses_job, report_planned}
 use Rattle.workers.proofs.bytes.report_text.Goals as goal
@@ -27,14 +26,14 @@ pub returns-in_err-plan-clause-answer : goal.returns-in_err-plan-clause-answer
 returns-in_err-plan-clause-answer g c =
     let graph = c.args.graph.now.graph in
     let p = err_from_is_err_and c.from_residual-in_err-plan.result c.from_residual-in_err-plan.ensures.1 in
-    rw (p.1, p.2) (planned (plan_over (run_numbers_of c.args.options.now) graph) (signed graph c.in_ok-bare.bare) c.in_ok-bare.ensures.ok)
+    rw (p.1, p.2) (planned (run_numbers_of c.args.options.now) graph (signed graph c.in_ok-bare.bare) c.in_ok-bare.ensures.ok)
 
 pub returns-in_err-text-clause-answer : goal.returns-in_err-text-clause-answer
 returns-in_err-text-clause-answer g c =
     let n = run_numbers_of c.args.options.now in
     let network = c.args.graph.now in
     let p = err_from_is_err_and c.from_residual-in_err-text.result c.from_residual-in_err-text.ensures.1 in
-    rw (p.1, p.2) (refuses_job n network c.in_err-text.field-0.0 (planned (plan_over n network.graph) (signed network.graph c.in_ok-bare.bare) c.in_ok-bare.ensures.ok))
+    rw (p.1, p.2) (refuses_job n network c.in_err-text.field-0.0 (planned n network.graph (signed network.graph c.in_ok-bare.bare) c.in_ok-bare.ensures.ok))
 
 pub returns-clause-answer : goal.returns-clause-answer
 returns-clause-answer g c =

@@ -80,10 +80,10 @@ pub begin_anew-requires-clause-part : goal.begin_anew-requires-clause-part
 begin_anew-requires-clause-part g c = part_later (g.E.Exchange.caller c.args.exchange.now) (g.E.Exchange.caller c.loop.exchange) _ _ c.loop.invariant.0 c.requires.part
 
 pub run_superstep-requires-clause-caller : goal.run_superstep-requires-clause-caller
-run_superstep-requires-clause-caller g c = caller_of _ _ c.loop.invariant.0
+run_superstep-requires-clause-caller g c κs within = caller_of _ _ c.loop.invariant.0
 
 pub run_superstep-requires-clause-stands : goal.run_superstep-requires-clause-stands
-run_superstep-requires-clause-stands g c = stands_later (g.E.Exchange.caller c.args.exchange.now) (g.E.Exchange.caller c.loop.exchange) _ c.loop.replica c.loop.invariant.0 c.loop.invariant.1
+run_superstep-requires-clause-stands g c κs within = stands_later (g.E.Exchange.caller c.args.exchange.now) (g.E.Exchange.caller c.loop.exchange) _ c.loop.replica c.loop.invariant.0 c.loop.invariant.1
 
 pub returns-then-falls_due-clause-seen : goal.returns-then-falls_due-clause-seen
 returns-then-falls_due-clause-seen g c = c.loop.invariant.0

@@ -13,7 +13,7 @@ use Rattle.workers.proofs.SuperstepLemmas.{stands_at}
 use Rattle.workers.proofs.node.run_from.Goals as goal
 
 pub go_on-fate-requires-clause-stands : goal.go_on-fate-requires-clause-stands
-go_on-fate-requires-clause-stands g c =
+go_on-fate-requires-clause-stands g c κs within =
     let v : Caller = g.E.Exchange.caller c.args.exchange.now in
     stands_at v.seen.job c.args.node.part _ _ c.requires.first.stands
 

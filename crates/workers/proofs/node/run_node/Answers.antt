@@ -7,10 +7,10 @@ pub returns-in_err-replica-clause-path : goal.returns-in_err-replica-clause-path
 returns-in_err-replica-clause-path g c = gone_nowhere _ _ _ _ refl
 
 pub run_from-requires-clause-part : goal.run_from-requires-clause-part
-run_from-requires-clause-part g c = record { job = c.requires.job; below = c.requires.node; part = c.requires.part }
+run_from-requires-clause-part g c κs within = record { job = c.requires.job; below = c.requires.node; part = c.requires.part }
 
 pub run_from-requires-clause-first : goal.run_from-requires-clause-first
-run_from-requires-clause-first g c =
+run_from-requires-clause-first g c κs within =
     let v : Caller = g.E.Exchange.caller c.args.exchange.now in
     c.in_ok-replica.ensures.first v.seen.job c.args.node.part c.requires.job c.requires.node c.requires.part
 

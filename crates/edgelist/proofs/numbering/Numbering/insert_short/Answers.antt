@@ -9,8 +9,8 @@ returns-clause-found c = c.insert.ensures.found
 
 pub returns-clause-labels : goal.returns-clause-labels
 returns-clause-labels c =
-    subst (λ (ls : List (List ℕ)). OnOk c.insert.result (texts c.insert.new.labels ≡ with_label ls c.args.label.now)) (c.self.view_is ∙ c.in_ok-make_room.ensures) c.insert.ensures.labels
+    subst (λ (ls : List (List ℕ)). OnOk c.insert.result (texts c.insert.new.labels ≡ with_label ls c.args.label.now)) (c.self.view_is ∙ c.make_room-room.ensures) c.insert.ensures.labels
 
 pub returns-clause-kept : goal.returns-clause-kept
 returns-clause-kept c =
-    subst (λ (ls : List (List ℕ)). OnErr c.insert.result (texts c.insert.new.labels ≡ ls)) (c.self.view_is ∙ c.in_ok-make_room.ensures) c.insert.ensures.kept
+    subst (λ (ls : List (List ℕ)). OnErr c.insert.result (texts c.insert.new.labels ≡ ls)) (c.self.view_is ∙ c.make_room-room.ensures) c.insert.ensures.kept

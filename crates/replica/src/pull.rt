@@ -1,0 +1,359 @@
+//! Rows of own vertices, raised by those of their own predecessors that are marked.
+//!
+//! What [`crate::spread::spread_own`] does by the targets of each marked vertex is done here by the predecessors of each
+//! vertex: each accumulator is written by one thread alone, so that threads share nothing that is written.
+
+ghost use Rattle.std.specs.Prelude.{◌≡◌, ◌≢◌, ◌+◌, ◌*◌, ◌/◌, ◌%◌, ◌^◌, ◌<◌, ◌≤◌, IsTrue, length};
+ghost use Rattle.std.specs.Thread.{IsSync};
+ghost use Rattle.registers.specs.Shape.{piece_at, with_piece};
+ghost use Rattle.replica.specs.Heard.{SpreadsOwn};
+ghost use Rattle.replica.specs.Index.{targets_of};
+ghost use Rattle.replica.specs.Pull.{CanPullBlock, CanPullOwn, CanPullRow, PullsBlock, PullsPiece};
+ghost use Rattle.replica.specs.Pull.{CanHearRows, CanRaiseBy, PullsRow, RaisesBy};
+ghost use Rattle.replica.specs.Pull.{is_told, raised_over, rows_at};
+
+use crate::spread::spread_own;
+use crate::targets::Targets;
+use edgelist::Part;
+use registers::{LINE, Rows, glance_over, max_into, next_marked};
+use std::thread::{Threads, available_parallelism, join_mut};
+
+// Below so many bytes of rows that changed, threads cost more than they save. What is beside the registers of a row counts
+// as some bytes more.
+const FEW: usize = 1 << 25;
+
+const BESIDE: usize = 64;
+
+// What an edge costs, in instructions: to decode it; to raise a row by another one, and three quarters of one for each
+// register.
+const DECODE: usize = 45;
+
+const RAISE: usize = 20;
+
+// Into how many blocks the rows are cut for each processor, as a power of 2, where all are to work.
+const BLOCKS: u32 = 2;
+
+// How many rows are glanced at before the first of them raises another one.
+const AHEAD: usize = 8;
+
+// The place of vertex `z` in its partition, and the number of this. A division takes longer than the branch.
+#[inline(always)]
+fn placed(parts: u32, z: u32) -> (u32, u32)
+    requires { 0 < parts }
+    ensures place { result.0 ≡ z / parts }
+    ensures number { result.1 ≡ z % parts }
+{
+    if parts == 1 {
+        (z, 0)
+    } else {
+        (z / parts, z % parts)
+    }
+}
+
+// Whether vertex `z` is of partition `own` and marked.
+#[inline(always)]
+fn is_told(parts: u32, own: u32, marks: &[bool], z: u32) -> bool
+    requires { 0 < parts }
+    ensures { result ≡ is_told parts own marks.now z }
+{
+    let (place, number) = placed(parts, z);
+    let place = place as usize;
+    number == own && place < marks.len() && marks[place]
+}
+
+// Whether a row is seen at a glance to be raised by one of those at these places, where rows are wider than a line of the
+// cache. So those are fetched side by side.
+fn is_seen_raised(rows: &Rows, places: &[u32], row: &[u8]) -> bool
+    requires { CanRaiseBy rows.now places.now row.now }
+    ensures { IsTrue result → raised_over row.now (rows_at rows.now.rows places.now) ≢ row.now }
+{
+    if row.len() <= LINE {
+        return false;
+    }
+    let mut seen = false;
+    for place in places {
+        seen |= glance_over(row, rows.row(*place as usize));
+    }
+    seen
+}
+
+// A row becomes the maximum of itself and of those at these places, one after the other; the answer is whether it changed.
+fn raise_by_each(rows: &Rows, places: &[u32], row: &mut [u8]) -> bool
+    requires { CanRaiseBy rows.now places.now row.old }
+    ensures { RaisesBy rows.now.rows places.now row.old row.new result }
+{
+    let mut raised = false;
+    for place in places {
+        raised |= max_into(row, rows.row(*place as usize));
+    }
+    raised
+}
+
+// A row becomes the maximum of itself and of those at these places, with a glance at all of them first; the answer is
+// whether it changed.
+fn raise_by(rows: &Rows, places: &[u32], row: &mut [u8]) -> bool
+    requires { CanRaiseBy rows.now places.now row.old }
+    ensures { RaisesBy rows.now.rows places.now row.old row.new result }
+{
+    let seen = is_seen_raised(rows, places, row);
+    raise_by_each(rows, places, row) | seen
+}
+
+// The row of own vertex `i` becomes the maximum of itself and of the rows of its own predecessors that are marked; the
+// answer is whether it changed.
+fn pull_row(part: &Part, rows: &Rows, marks: &[bool], i: u32, row: &mut [u8]) -> bool
+    requires { CanPullRow part.now rows.now marks.now i row.old }
+    ensures { PullsRow part.now rows.now.rows marks.now i row.old row.new result }
+{
+    let parts = u32::from(part.plan().parts());
+    let own = u32::from(part.partition());
+    let mut waiting = [0; AHEAD];
+    let mut count = 0;
+    let mut raised = false;
+    for z in part.preds(i) {
+        if is_told(parts, own, marks, z) {
+            waiting[count] = placed(parts, z).0;
+            count += 1;
+            if count == AHEAD {
+                raised |= raise_by(rows, &waiting[..count], row);
+                count = 0;
+            }
+        }
+    }
+    raised | raise_by(rows, &waiting[..count], row)
+}
+
+// The k-th of the rows from own vertex `from` on is pulled; the answer is whether it changed.
+fn pull_piece(
+    part: &Part,
+    rows: &Rows,
+    marks: &[bool],
+    from: usize,
+    k: usize,
+    cells: &mut [u8],
+) -> bool
+    requires within { k * rows.now.width + rows.now.width ≤ length cells.old }
+    requires can { CanPullRow part.now rows.now marks.now (from + k)
+        (piece_at rows.now.width k cells.old) }
+    ensures { PullsPiece part.now rows.now marks.now from k cells.old cells.new result }
+{
+    let _size = part.size();
+    let width = rows.width();
+    let start = k * width;
+    let i = (from + k) as u32;
+    pull_row(part, rows, marks, i, &mut cells[start..start + width])
+}
+
+// Rows from own vertex `from` on are pulled, one after the other, and each that this changes is marked.
+fn pull_block(
+    part: &Part,
+    rows: &Rows,
+    marks: &[bool],
+    from: usize,
+    cells: &mut [u8],
+    touched: &mut [bool],
+)
+    requires { CanPullBlock part.now rows.now marks.now from cells.old touched.old }
+    ensures { PullsBlock part.now rows.now marks.now from cells.old cells.new
+        touched.old touched.new }
+{
+    for k in 0..touched.len() {
+        let raised = pull_piece(part, rows, marks, from, k, cells);
+        touched[k] |= raised;
+    }
+}
+
+// How many of the own vertices from `from` on, of which there are so many, have about half of their edges.
+fn middle(part: &Part, from: usize, count: usize) -> usize
+    requires { from + count ≤ length part.now.preds }
+    ensures { result ≤ count }
+{
+    let _size = part.size();
+    part.middle(from as u32, (from + count) as u32) as usize - from
+}
+
+// Does what `pull_block` does, by halves of halves, each in a thread of its own where one can be made.
+#[cycle(halves)]
+fn pull_halves<R: Threads + Sync>(
+    rt: &R,
+    part: &Part,
+    rows: &Rows,
+    marks: &[bool],
+    depth: u32,
+    from: usize,
+    cells: &mut [u8],
+    touched: &mut [bool],
+)
+    requires { CanPullBlock part.now rows.now marks.now from cells.old touched.old }
+    ensures { PullsBlock part.now rows.now marks.now from cells.old cells.new
+        touched.old touched.new }
+{
+    if depth == 0 {
+        pull_block(part, rows, marks, from, cells, touched);
+        return;
+    }
+    let mid = middle(part, from, touched.len());
+    let (front, back) = cells.split_at_mut(mid * rows.width());
+    let (first, last) = touched.split_at_mut(mid);
+    pull_both(
+        rt,
+        part,
+        rows,
+        marks,
+        depth - 1,
+        from,
+        front,
+        first,
+        from + mid,
+        back,
+        last,
+    );
+}
+
+// Two blocks side by side. Its own conditions are what its closures ask for.
+#[cycle(halves)]
+fn pull_both<R: Threads + Sync>(
+    rt: &R,
+    part: &Part,
+    rows: &Rows,
+    marks: &[bool],
+    depth: u32,
+    from: usize,
+    front: &mut [u8],
+    first: &mut [bool],
+    up: usize,
+    back: &mut [u8],
+    last: &mut [bool],
+)
+    requires front { CanPullBlock part.now rows.now marks.now from front.old first.old }
+    requires back { CanPullBlock part.now rows.now marks.now up back.old last.old }
+    ensures front { PullsBlock part.now rows.now marks.now from front.old front.new
+        first.old first.new }
+    ensures back { PullsBlock part.now rows.now marks.now up back.old back.new
+        last.old last.new }
+{
+    let mut left = ||
+        requires { IsSync R.row × CanPullBlock part.now rows.now marks.now from front.now first.now }
+        ensures { PullsBlock part.entry.now rows.entry.now marks.entry.now from
+            front.entry.now front.exit.now first.entry.now first.exit.now }
+    { pull_halves(rt, part, rows, marks, depth, from, front, first) };
+    let mut right = ||
+        requires { IsSync R.row × CanPullBlock part.now rows.now marks.now up back.now last.now }
+        ensures { PullsBlock part.entry.now rows.entry.now marks.entry.now up
+            back.entry.now back.exit.now last.entry.now last.exit.now }
+    { pull_halves(rt, part, rows, marks, depth, up, back, last) };
+    join_mut(rt, &mut left, &mut right);
+}
+
+/// Pulls all own rows: each becomes the maximum of itself and of the rows of its own predecessors that are marked, and
+/// each that this changes is marked. So it does what [`crate::spread::spread_own`] does, in 2^depth threads.
+///
+/// It takes no memory but that of the threads, and time in proportion to the edges to own vertices, over the
+/// processors.
+pub fn pull_own<R: Threads + Sync>(
+    rt: &R,
+    depth: u32,
+    part: &Part,
+    rows: &Rows,
+    marks: &[bool],
+    accumulated: &mut Rows,
+    touched: &mut [bool],
+)
+    requires { CanPullOwn part.now rows.now marks.now accumulated.old touched.old }
+    ensures { SpreadsOwn (targets_of part.now) part.now rows.now.rows marks.now
+        accumulated.old accumulated.new touched.old touched.new }
+{
+    let _limits = part.partition();
+    pull_halves(
+        rt,
+        part,
+        rows,
+        marks,
+        depth,
+        0,
+        accumulated.cells_mut(),
+        touched,
+    );
+}
+
+// How often rows are halved for so many threads: there are no more blocks than threads. Where all processors are to work
+// there are some more, since blocks take unequal times.
+fn halvings<R: Threads>(rt: &R, threads: usize) -> u32 {
+    let whole = usize::BITS - (threads / 2).leading_zeros();
+    match available_parallelism(rt) {
+        Ok(processors) if threads < processors.get() => whole,
+        _ => whole + BLOCKS,
+    }
+}
+
+// Whether at least so many rows are marked. It stops where it has found them.
+fn are_marked(marks: &[bool], count: usize) -> bool {
+    let mut left = count;
+    let mut i = next_marked(marks, 0);
+    while 0 < left && i < marks.len() {
+        left -= 1;
+        i = next_marked(marks, i + 1);
+    }
+    left == 0
+}
+
+// How many rows of so many registers are worth threads.
+fn least_rows(width: usize) -> usize
+    requires { width < 2 ^ 16 }
+{
+    FEW / (width + BESIDE)
+}
+
+// Whether so many rows are marked that pulling all rows in so many threads takes less time than spreading those: then
+// each edge to an own vertex has to be decoded, of which about one in so many partitions is from an own one, and the rows
+// are raised by all threads.
+fn are_many(threads: usize, parts: u16, width: usize, marks: &[bool]) -> bool
+    requires { width < 2 ^ 16 }
+{
+    let decode = DECODE * usize::from(parts.max(1));
+    let gain = (threads.max(1) - 1).min(63) * (RAISE + width / 4 * 3) / decode;
+    0 < gain && are_marked(marks, least_rows(width).max(marks.len() / gain))
+}
+
+/// How often rows of so many registers are halved for so many threads; 0 where so few are marked that threads cost more
+/// than they save.
+pub fn halvings_for<R: Threads>(rt: &R, threads: usize, width: usize, marks: &[bool]) -> u32
+    requires { width < 2 ^ 16 }
+{
+    if 1 < threads && are_marked(marks, least_rows(width)) {
+        halvings(rt, threads)
+    } else {
+        0
+    }
+}
+
+/// The own rows that are marked are heard: by the predecessors of each vertex where there are several threads and many
+/// rows are marked, and else by the targets of the marked ones.
+pub fn hear_rows<R: Threads + Sync>(
+    rt: &R,
+    threads: usize,
+    targets: &Targets,
+    part: &Part,
+    rows: &Rows,
+    marks: &[bool],
+    accumulated: &mut Rows,
+    touched: &mut [bool],
+)
+    requires { CanHearRows targets.now part.now rows.now marks.now accumulated.old touched.old }
+    ensures { SpreadsOwn targets.now part.now rows.now.rows marks.now
+        accumulated.old accumulated.new touched.old touched.new }
+{
+    if are_many(threads, part.plan().parts(), rows.width(), marks) {
+        pull_own(
+            rt,
+            halvings(rt, threads),
+            part,
+            rows,
+            marks,
+            accumulated,
+            touched,
+        );
+    } else {
+        spread_own(targets, part, rows, marks, accumulated, touched);
+    }
+}
