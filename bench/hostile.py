@@ -259,23 +259,55 @@ def all_inputs(many, seconds, seed, feed):
         inputs(kind, words, make, many, seconds, holds, seed, feed)
 
 
-def each_call(kind, words, data, shim, variable, wanted):
-    """Call 1, 2, .. of a kind is refused, until a run in which there is no such call: then all is as it should be."""
-    bad, call = [], 0
+def without(words, data, shim, variable, call):
+    """The answer of a run in which a call of a kind is refused, and whether there was such a call."""
     with tempfile.TemporaryDirectory() as folder:
         told = os.path.join(folder, "told")
-        while len(bad) < 5:
-            call += 1
-            answer = ran(words, data, LD_PRELOAD=shim, REFUSE_TELL=told, **{variable: str(call)})
-            if not os.path.exists(told):
-                break
-            os.remove(told)
-            if not wanted(*answer):
-                bad.append((words, variable, call, answer))
-        plain = ran(words, data)
-        if answer != plain:
-            bad.append((words, variable, "none", answer))
-    count(kind, call, bad)
+        answer = ran(words, data, LD_PRELOAD=shim, REFUSE_TELL=told, **{variable: str(call)})
+        return answer, os.path.exists(told)
+
+
+def each_call(kind, words, data, shim, variable, wanted, first=1):
+    """Call 1, 2, .. of a kind is refused, or from a later one on, until a run in which there is no such call: then all is
+    as it should be."""
+    bad, call = [], first
+    while len(bad) < 5:
+        answer, reached = without(words, data, shim, variable, call)
+        if not reached:
+            break
+        if not wanted(*answer):
+            bad.append((words, variable, call, answer))
+        call += 1
+    plain = ran(words, data)
+    if answer != plain:
+        bad.append((words, variable, "none", answer))
+    count(kind, call - first + 1, bad)
+
+
+def how_many(words, data, shim, variable):
+    """How many calls of a kind there are."""
+    least, step = 0, 1 << 24
+    while step:
+        if without(words, data, shim, variable, least + step)[1]:
+            least += step
+        step //= 2
+    return least
+
+
+def refused_in_threads(shim):
+    """Supersteps in which so many rows change that threads share them: whichever thread is not to be had, and whichever of
+    the last allocations, the report is the same, or the run says that memory was refused and has written nothing."""
+    chance = random.Random("threads")
+    data = "".join(f"{chance.randrange(40000)}\t{chance.randrange(40000)}\n" for _ in range(100000)).encode()
+    words = ["run", "--limit", "2", "--threads", "4"]
+    report = ran(words, data)[1]
+
+    def holds(status, output, faults):
+        return (status, output, faults) in [(1, b"", b"hyperball: out of memory\n"), (0, report, b"")]
+
+    each_call("a thread refused: large supersteps", words, data, shim, "REFUSE_THREAD", holds)
+    last = how_many(words, data, shim, "REFUSE_ALLOC")
+    each_call("memory refused: large supersteps", words, data, shim, "REFUSE_ALLOC", holds, first=max(1, last - 60))
 
 
 def refusals(shim):
@@ -464,6 +496,7 @@ def main():
             if words != ["program"]:
                 refused_calls(shim)
             refusals(shim)
+            refused_in_threads(shim)
         else:
             print("no cc: refused memory and failing streams are not tried")
     return 1 if wrong else 0
