@@ -294,13 +294,28 @@ def how_many(words, data, shim, variable):
     return least
 
 
+def growth_refused(shim):
+    """The table of guesses, which grows after 131,072 labels, is left as it is where memory for a larger one is refused: one
+    of these allocations is done without, and the report is the same; each of the others ends the run."""
+    data, words = "".join(f"{v}\n" for v in range(140000)).encode(), ["run", "--log2m", "4"]
+    report, bad, spared, calls = ran(words, data)[1], [], 0, range(131250, 131300)
+    for call in calls:
+        answer, reached = without(words, data, shim, "REFUSE_ALLOC", call)
+        spared += reached and answer == (0, report, b"")
+        if not reached or answer not in [(0, report, b""), (1, b"", b"hyperball: out of memory\n")]:
+            bad.append((words, call, answer[0], answer[2]))
+    if not spared:
+        bad.append((words, "none of these allocations was done without"))
+    count("memory refused: a larger table of guesses", len(calls), bad)
+
+
 def refused_in_threads(shim):
     """Supersteps in which so many rows change that threads share them: whichever thread is not to be had, and whichever of
     the last allocations, the report is the same, or the run says that memory was refused and has written nothing."""
     chance = random.Random("threads")
     data = "".join(f"{chance.randrange(40000)}\t{chance.randrange(40000)}\n" for _ in range(100000)).encode()
     words = ["run", "--limit", "2", "--threads", "4"]
-    report = ran(words, data)[1]
+    report = ran(["run", "--limit", "2", "--threads", "1"], data)[1]
 
     def holds(status, output, faults):
         return (status, output, faults) in [(1, b"", b"hyperball: out of memory\n"), (0, report, b"")]
@@ -496,6 +511,7 @@ def main():
             if words != ["program"]:
                 refused_calls(shim)
             refusals(shim)
+            growth_refused(shim)
             refused_in_threads(shim)
         else:
             print("no cc: refused memory and failing streams are not tried")
