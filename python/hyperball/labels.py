@@ -39,11 +39,13 @@ class Labels:
     def field(self, label: Any) -> bytes:
         """The field of a label."""
         label = _checked(label)
-        kind = str if isinstance(label, str) else type(label)
+        kind: type = type(label)
+        if isinstance(label, str):
+            kind = str
         if self._plain is None and kind in (int, str):
             self._plain = kind
         if kind is self._plain:
-            text = str(label)
+            text = str.__str__(label) if kind is str else str(label)  # (str of an Enum of texts is its name)
             if kind is int or _is_field(text):
                 return text.encode()
         if label not in self._numbers:
@@ -78,7 +80,7 @@ def _checked(label: Any) -> Any:
     if isinstance(label, str):
         _check_text(label)
         return label
-    if label is None or (isinstance(label, float) and label != label):
+    if _is_missing(label):
         raise ValueError(f"a label is missing: {label!r}")
     if isinstance(label, float) and label.is_integer():
         return int(label)
@@ -90,6 +92,13 @@ def _checked(label: Any) -> Any:
         return int(operator.index(label))  # (of True it is True in old Pythons)
     except TypeError:
         return label
+
+
+# None, a float that is no number, of numpy's types too, and what pandas has where a value is missing.
+def _is_missing(label: Any) -> bool:
+    if label is None or type(label).__name__ in ("NAType", "NaTType"):
+        return True
+    return (isinstance(label, float) or hasattr(label, "dtype")) and getattr(label, "ndim", 0) == 0 and bool(label != label)
 
 
 def _check_text(label: str) -> None:

@@ -78,11 +78,11 @@ class Program:
 
     def feed(self, pieces: Iterable[bytes]) -> None:
         """Writes the pieces to the program's input, and ends it; no more of them are taken if the program ends before."""
-        try:
-            for piece in pieces:
+        for piece in pieces:
+            try:
                 self._input.write(piece)
-        except BrokenPipeError:
-            pass
+            except BrokenPipeError:  # (of the program's input alone: one of the edges is raised)
+                break
         _close(self._input)
 
     @property

@@ -227,10 +227,19 @@ class Report:
         return f"<Report of {len(self.vertices)} vertices, {self.end} supersteps, {'stable' if self.stable else 'limit'}>"
 
     def __getitem__(self, label: Any) -> Vertex:
-        """The vertex of this label."""
+        """The vertex of this label. KeyError if it has none."""
+        return self.vertices[self._place_of()[label]]
+
+    def __contains__(self, label: Any) -> bool:
+        """Whether it has a vertex of this label."""
+        return label in self._place_of()
+
+    __iter__ = None  # (of what? Say report.vertices, or report.vertices.label)
+
+    def _place_of(self) -> Dict[Any, int]:
         if self._places is None:
             self._places = {known: place for place, known in enumerate(self.vertices.label)}
-        return self.vertices[self._places[label]]
+        return self._places
 
     @property
     def supersteps(self) -> List[float]:
@@ -253,8 +262,10 @@ class Report:
     def effective_diameter(self, share: float = 0.9) -> Optional[float]:
         """The distance within which this share of all reachable pairs lie, read on a straight line between two supersteps.
 
-        None if the pairs of a vertex and itself are that share already.
+        None if the pairs of a vertex and itself are that share already. ValueError if the share is not from 0 to 1.
         """
+        if not 0 <= share <= 1:
+            raise ValueError(f"a share is from 0 to 1, not {share!r}")
         totals = self._totals
         wanted = Fraction(str(share)) * totals[-1]
         if totals[0] >= wanted:

@@ -7,6 +7,7 @@ from __future__ import annotations
 
 import gzip
 import os
+from collections.abc import Mapping
 from itertools import islice
 from typing import IO, Any, Callable, Iterable, Iterator, List, Optional, Protocol, Tuple, Union
 
@@ -17,6 +18,9 @@ _RECORDS = 8192
 _BYTES = 1 << 20
 
 _DELIMITERS = {"tab": b"\t", "comma": b",", "space": b" "}
+
+# The byte order mark, in UTF-8.
+_MARK = b"\xef\xbb\xbf"
 
 
 class Source(Protocol):
@@ -110,7 +114,9 @@ def _bytes_of(piece: Union[str, bytes]) -> bytes:
 # The lines of these pieces, and each edge the other way round too.
 def _doubled(pieces: Iterable[bytes], delimiter: bytes) -> Iterator[bytes]:
     rest = b""
-    for piece in pieces:
+    for number, piece in enumerate(pieces):
+        if number == 0:  # (a byte order mark would stand before the first label one way, and in it the other way)
+            piece = piece[len(_MARK):] if piece.startswith(_MARK) else piece
         lines = (rest + piece).split(b"\n")
         rest = lines.pop()
         yield b"".join(_line_doubled(line, delimiter) for line in lines)
@@ -146,6 +152,8 @@ def _checked_records(records: Iterable[Any]) -> Iterator[Record]:
     for number, record in enumerate(records, 1):
         if isinstance(record, (str, bytes)):
             raise ValueError(f"edge {number} is no pair but the text {record!r}")
+        if isinstance(record, Mapping):  # as of csv.DictReader: its own keys are no labels
+            raise ValueError(f"edge {number} is no pair: {record!r}")
         try:
             labels = record if type(record) is tuple else tuple(record)
         except TypeError:

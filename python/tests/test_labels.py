@@ -1,6 +1,7 @@
 """Labels come back as they went in, or are refused by name before the program is run."""
 import unittest
 from decimal import Decimal
+from enum import Enum
 
 import hyperball
 from given import ECHO, program, started
@@ -33,6 +34,12 @@ class LabelsComeBack(unittest.TestCase):
     def test_whatever_can_be_hashed(self):
         labels = [(0, 1), (1, 1), b"bytes", Decimal("1.5"), 0.5, frozenset({1})]
         self.assertEqual(labels_of(list(zip(labels, labels[1:]))), labels)
+
+    def test_texts_of_other_types(self):
+        class Colour(str, Enum):
+            RED, BLUE = "red", "blue"
+
+        self.assertEqual(labels_of([(Colour.RED, Colour.BLUE), ("red", "Colour.RED")]), ["red", "blue", "Colour.RED"])
 
     def test_equal_labels_are_one_vertex(self):
         self.assertEqual(labels_of([(1, 2.0), (2, True), (1.0, 3)]), [1, 2, 3])
@@ -69,10 +76,10 @@ class LabelsAreRefused(unittest.TestCase):
 
     def test_later_edges_end_the_program(self):
         edges = [("a", "b")] * 20000 + [("c\td", "e")]
-        with program(ECHO) as folder:
+        with program("given.read(); open(here + '/whole', 'w').close(); time.sleep(60)") as folder:
             with self.assertRaisesRegex(ValueError, r"'c\\td' has a tab"):
                 hyperball.run(edges)
-            self.assertFalse((folder / "words").exists() and (folder / "given").read_bytes().count(b"\n") > 20000)
+            self.assertFalse((folder / "whole").exists())
 
     def test_counted(self):
         with program(ECHO):

@@ -36,10 +36,14 @@ class Pages(unittest.TestCase):
         self.page("examples/README.md")
 
     @unittest.skipUnless(networkx, "networkx is not there")
-    def test_readme(self):
+    def test_first_page(self):
+        self.page("README.md")
+
+    def test_page_of_the_package(self):
         self.page("python/README.md")
 
-    def test_length_of_the_readme(self):
+    def test_length_of_the_pages(self):
+        self.assertLessEqual(len((PAGES / "README.md").read_text(encoding="utf-8").split()), 1200)
         self.assertLess(len((PAGES / "python" / "README.md").read_text(encoding="utf-8").split()), 500)
 
     def test_modules(self):

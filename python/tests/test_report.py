@@ -24,6 +24,7 @@ class Reads(unittest.TestCase):
         self.assertEqual((vertices.lin[-1], vertices.harmonic[1], list(vertices.empty)), (3.003941, 1.003921, [255, 254, 253]))
         self.assertEqual(list(vertices), vertices[:])
         self.assertEqual(report["b"], vertices[1])
+        self.assertTrue("b" in report and "z" not in report and 0 not in report)
         self.assertEqual(vertices.closeness[0], 0)
         self.assertAlmostEqual(vertices.distances[2], 3.0196695, places=7)
         self.assertEqual((report.gain, report.totals()[1], report.news()), (1.255889, 5007842, [3000000, 2007842, 1007874, 0]))
@@ -32,6 +33,8 @@ class Reads(unittest.TestCase):
                 wrong()
         with self.assertRaisesRegex(ValueError, "'degree' is no figure"):
             report.top("degree")
+        with self.assertRaisesRegex(ValueError, "from 0 to 1"):
+            report.effective_diameter(90)
 
     def test_quotes(self):
         report = Report.of(REPORT.replace("vertex,b,", 'vertex,"b, ""the"" second",').splitlines())
