@@ -100,7 +100,7 @@ fn are_those_of(found: &Found, replica: &Replica) -> bool {
     for i in 0..rows.len().min(found.rows.len()) {
         alike = alike && found.rows.row(i) == rows.row(i);
     }
-    alike && count_set(&found.marks) as u32 == replica.changed_count()
+    alike && count_set(&found.marks) == replica.changed_count() as usize
 }
 
 /// Whether the rows of a part are those of a replica at superstep 1, be they pulled in one block or in more blocks than
