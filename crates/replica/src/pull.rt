@@ -18,9 +18,12 @@ use edgelist::Part;
 use registers::{LINE, Rows, glance_over, max_into, next_marked};
 use std::thread::{Threads, available_parallelism, join_mut};
 
-// Below so many bytes of rows that changed, threads cost more than they save. What is beside the registers of a row counts
-// as some bytes more.
-const FEW: usize = 1 << 25;
+// Below so many bytes of registers that changed, threads cost more than they save.
+const FEW: usize = 1 << 24;
+
+// From so many bytes of rows on threads have blocks to choose from. What is beside the registers of a row counts as some
+// bytes more.
+const MANY: usize = 1 << 25;
 
 const BESIDE: usize = 64;
 
@@ -30,7 +33,7 @@ const DECODE: usize = 45;
 
 const RAISE: usize = 20;
 
-// Into how many blocks the rows are cut for each processor, as a power of 2, where all are to work.
+// Into how many blocks many rows are cut for each processor, as a power of 2, where all are to work.
 const BLOCKS: u32 = 2;
 
 // How many rows are glanced at before the first of them raises another one.
@@ -277,12 +280,15 @@ pub fn pull_own<R: Threads + Sync>(
 }
 
 // How often rows are halved for so many threads: there are no more blocks than threads. Where all processors are to work
-// there are some more, since blocks take unequal times.
-fn halvings<R: Threads>(rt: &R, threads: usize) -> u32 {
+// on many rows there are some more, since blocks take unequal times.
+fn halvings<R: Threads>(rt: &R, threads: usize, width: usize, marks: &[bool]) -> u32
+    requires { width < 2 ^ 16 }
+{
     let whole = usize::BITS - (threads / 2).leading_zeros();
     match available_parallelism(rt) {
         Ok(processors) if threads < processors.get() => whole,
-        _ => whole + BLOCKS,
+        _ if are_marked(marks, many_rows(width)) => whole + BLOCKS,
+        _ => whole,
     }
 }
 
@@ -297,11 +303,18 @@ fn are_marked(marks: &[bool], count: usize) -> bool {
     left == 0
 }
 
+// How many rows of so many registers are many.
+fn many_rows(width: usize) -> usize
+    requires { width < 2 ^ 16 }
+{
+    MANY / (width + BESIDE)
+}
+
 // How many rows of so many registers are worth threads.
 fn least_rows(width: usize) -> usize
     requires { width < 2 ^ 16 }
 {
-    FEW / (width + BESIDE)
+    many_rows(width).min(FEW / width.max(1))
 }
 
 // Whether so many rows are marked that pulling all rows in so many threads takes less time than spreading those: then
@@ -321,7 +334,7 @@ pub fn halvings_for<R: Threads>(rt: &R, threads: usize, width: usize, marks: &[b
     requires { width < 2 ^ 16 }
 {
     if 1 < threads && are_marked(marks, least_rows(width)) {
-        halvings(rt, threads)
+        halvings(rt, threads, width, marks)
     } else {
         0
     }
@@ -346,7 +359,7 @@ pub fn hear_rows<R: Threads + Sync>(
     if are_many(threads, part.plan().parts(), rows.width(), marks) {
         pull_own(
             rt,
-            halvings(rt, threads),
+            halvings(rt, threads, rows.width(), marks),
             part,
             rows,
             marks,
