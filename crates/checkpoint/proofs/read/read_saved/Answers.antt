@@ -43,8 +43,8 @@ returns-in_err-saved-clause-refused g c =
 
 -- what does not fit is refused for its shape
 refuse_by : {part : PartValue} {saved : Saved} (r : Result Saved KeepError) (P : KeepError → Type 0) → IfErr r (λ e. e ≡ errors.Shape) → OnErr r (Fits part saved → ⊥) → ((Fits part saved → ⊥) → P errors.Shape) → IfErr r P
-refuse_by (Ok s) P kind no refused = tt
-refuse_by (Err e) P kind no refused = subst P (sym kind) (refused no)
+refuse_by (Ok s) P kind unfit refused = tt
+refuse_by (Err e) P kind unfit refused = subst P (sym kind) (refused unfit)
 
 any_ok : {A : Type 0} {P : Type 0} (r : Result A KeepError) → P → OnOk r P
 any_ok (Ok x) p = p
