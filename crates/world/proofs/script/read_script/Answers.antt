@@ -1,9 +1,10 @@
-use Rattle.std.proofs.Common.{◌∙◌, sym}
-use Rattle.world.proofs.ScriptLemmas.{read-line, read-none, end-of}
+use Rattle.std.proofs.Common.{◌∙◌, List, subst, sym}
+use Rattle.ball_model.specs.declared.world.Event.{Event}
+use Rattle.world.proofs.ScriptLemmas.{ReadSoFar, read-line, read-none, end-of}
 use Rattle.world.proofs.script.read_script.Goals as goal
 
 pub loop-rest-init : goal.loop-rest-init
-loop-rest-init c = λ fine. read-none c.args.script.now
+loop-rest-init c = λ fine. subst (λ (es : List Event). ReadSoFar c.args.script.now c.args.script.now es) (sym c.new-events.ensures.items) (read-none c.args.script.now)
 
 pub loop-rest-preserved : goal.loop-rest-preserved
 loop-rest-preserved c = λ fine.
