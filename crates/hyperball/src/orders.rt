@@ -110,6 +110,7 @@ pub fn orders_in(alloc: Global, text: &str) -> Result<Vec<(NodeId, u32)>, Orders
         return Err(OrdersError::Form);
     }
     let mut orders = Vec::new(alloc);
+    // each piece is one
     for piece in text.split(',') {
         let Some(order) = order_in(piece) else {
             return Err(OrdersError::Form);
