@@ -37,7 +37,7 @@ pub returns-in_err-need_end-clause-refused : goal.returns-in_err-need_end-clause
 returns-in_err-need_end-clause-refused g c =
     let j : Job = job_of c.args.graph.now.graph c.args.plan.now in
     let p = err_from_is_err_and c.from_residual-in_err-need_end.result c.from_residual-in_err-need_end.ensures.1 in
-    let said = sym p.2 ∙ c.in_err-need_end.ensures.none.1 in
+    let said = p.2 ∙ c.in_err-need_end.ensures.none.1 in
     rw (p.1)
     (subst (IsNoReport j (g.R.Read.remaining c.args.reader.now) (g.R.Read.remaining c.read_replicas.new.reader)) (sym said)
     (unready j (g.R.Read.remaining c.args.reader.now) (g.R.Read.remaining c.read_replicas.new.reader) c.read_replicas.new.replicas.items

@@ -17,4 +17,4 @@ returns-in-Cut-clause-refused g c =
 pub returns-in-Memory-clause-refused : goal.returns-in-Memory-clause-refused
 returns-in-Memory-clause-refused g c =
     body_lacks c.args.part.now (g.R.Read.remaining c.args.reader.now) (g.R.Read.remaining c.read_length.new.reader) (g.R.Read.remaining c.read_body.new.reader)
-    c.in_ok-length.length (omega (arith, c.longest_checkpoint.ensures, c.if-longest_checkpoint.false)) c.in_ok-length.ensures.read (c.read_body.ensures.memory c.in-Memory.is)
+    c.in_ok-length.length (omega (arith, c.longest_checkpoint.ensures, c.if-longest_checkpoint-length.false)) c.in_ok-length.ensures.read (c.read_body.ensures.memory c.in-Memory.is)
