@@ -1,8 +1,11 @@
 use Rattle.std.proofs.Common.{lit<}
 use Rattle.std.proofs.lemmas.Iterator.Consumers.{YieldsList-at, YieldsList-end, YieldsList-turn}
 use Rattle.std.proofs.lemmas.Iterator.Splits.{YieldsList-from_str_split}
-use Rattle.hyperball.proofs.OrderLemmas.{none-is-read, some-read}
+use Rattle.hyperball.proofs.OrderLemmas.{none-is-read, one-more, some-read}
 use Rattle.hyperball.proofs.orders.are_orders.Goals as goal
+
+pub loop-piece-preserved : goal.loop-piece-preserved
+loop-piece-preserved c = (tt, tt, one-more c.loop-piece.yielded c.in-Some.piece c.in-Some-order_in.field-0 c.loop-piece.invariant.2 c.in-Some-order_in.ensures)
 
 pub returns-in_default-clause-no : goal.returns-in_default-clause-no
 returns-in_default-clause-no c = λ os is are.
