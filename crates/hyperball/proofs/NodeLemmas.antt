@@ -16,6 +16,9 @@ same_node x v w is says = let e = sym is ∙ says in cc
 pub same_gather : (x : Wish) (v w : GatherWords) → x ≡ wish.Gather v → x ≡ wish.Gather w → v ≡ w
 same_gather x v w is says = let e = sym is ∙ says in cc
 
+pub same_said : (x : Wish) (v w : Said) → x ≡ wish.Run v → x ≡ wish.Run w → v ≡ w
+same_said x v w is says = let e = sym is ∙ says in cc
+
 pub node_no_run : (x : Wish) (v : NodeWords) (w : RunWords) → x ≡ wish.Node v → SaysRun w x → ⊥
 node_no_run x v w is = subst (SaysRun w) is
 

@@ -1,6 +1,6 @@
 -- What `clap` reads of an option is what its words say.
 use Rattle.std.proofs.Common.{◌≡◌, ◌<◌, ◌^◌, ℕ, Bool, true, false, List, [], Option, Some, None, codes, refl, ap, sym, subst, ◌∙◌}
-use Rattle.std.specs.Prelude.{MatchOption, Result, is_some, unwrap_or}
+use Rattle.std.specs.Prelude.{⊤, MatchOption, Result, is_some, unwrap_or}
 use Rattle.std.specs.Str.Parse.{ParsesUnsigned}
 use Rattle.clap.specs.Words.{ReadsOne, Text, first_of, first_value, one_text, rows_of}
 use Rattle.clap.specs.declared.parser.matches.Found.{Found}
@@ -13,8 +13,8 @@ use Rattle.hyperball.specs.declared.node_words.NodeWords.{NodeWords}
 use Rattle.hyperball.specs.declared.replay_words.ReplayWords.{ReplayWords}
 use Rattle.hyperball.specs.declared.words.RunWords.{RunWords}
 use Rattle.ball_model.specs.declared.names.NodeId.{NodeId}
-use Rattle.hyperball.specs.Orders.{AreOrders}
-use Rattle.hyperball.specs.Words.{IsFlag, IsListed, IsNamedOr, IsNumber, IsNumberOr, flag_text}
+use Rattle.hyperball.specs.Orders.{AreOrders, SpellsOrders}
+use Rattle.hyperball.specs.Words.{IsFlag, IsListed, IsNamedOr, IsNumber, IsNumberOr, SpellLists, flag_text}
 
 number_of : {E : Type 0} (A B : List ℕ → Result ℕ E → Type 0) (one : Option Text) (usual bits n : ℕ) (r : Option ℕ) → (one ≡ None → r ≡ None) →
     ((t : Text) → one ≡ Some t → ReadsOne (λ bs x. ParsesUnsigned bits 10 bs x × A bs x × B bs x) t r) →
@@ -75,3 +75,33 @@ given_is f id text read is = subst (λ o. is_some o ≡ true) (read ∙ first_va
 -- a list that was read is that of its option
 pub listed_is : (f : Found) (id : Text) (text : Option Text) (os : List (NodeId × ℕ)) → text ≡ first_value f id → MatchOption text (os ≡ []) (λ t. AreOrders t os) → IsListed (rows_of f) id os
 listed_is f id text os read is = subst (λ o. MatchOption o (os ≡ []) (λ t. AreOrders t os)) (read ∙ first_value-rows f id) is
+
+pub listed_back : (f : Found) (id : Text) (text : Option Text) (os : List (NodeId × ℕ)) → text ≡ first_value f id → IsListed (rows_of f) id os → MatchOption text (os ≡ []) (λ t. AreOrders t os)
+listed_back f id text os read is = subst (λ o. MatchOption o (os ≡ []) (λ t. AreOrders t os)) (sym (read ∙ first_value-rows f id)) is
+
+-- the orders of a list that is of its form, where one is given
+pub record SomeListed (text : Option Text) : Type 0 where
+  pub orders : List (NodeId × ℕ)
+  pub are : MatchOption text (orders ≡ []) (λ t. AreOrders t orders)
+
+pub given_listed : (text : Option Text) → MatchOption text ⊥ SpellsOrders → SomeListed text
+given_listed None h = absurd h
+given_listed (Some t) h = record { orders = h.orders; are = h.are }
+
+pub maybe_listed : (text : Option Text) → MatchOption text ⊤ SpellsOrders → SomeListed text
+maybe_listed None h = record { orders = []; are = refl }
+maybe_listed (Some t) h = record { orders = h.orders; are = h.are }
+
+-- a list that is not of its form is given
+pub unlisted_given : (text : Option Text) → ((os : List (NodeId × ℕ)) → MatchOption text (os ≡ []) (λ t. AreOrders t os) → ⊥) → is_some text ≡ true
+unlisted_given None none = absurd (none [] refl)
+unlisted_given (Some t) none = refl
+
+-- each value is a list of orders
+pub both_listed : (f : Found) (a b : Option Text) → a ≡ first_value f (codes "lose") → b ≡ first_value f (codes "restart") → SomeListed a → SomeListed b → SpellLists (rows_of f)
+both_listed f a b first second x y = record {
+  lose = x.orders;
+  restart = y.orders;
+  lose_is = listed_is f (codes "lose") a x.orders first x.are;
+  restart_is = listed_is f (codes "restart") b y.orders second y.are;
+}

@@ -14,10 +14,10 @@ use Rattle.std.proofs.lemmas.Bool.{eq-eqb, eqb-true, ne_eqb}
 use Rattle.std.proofs.lemmas.List.Elements.{All-append, All-cons, All-from_recursion, All-nil}
 use Rattle.std.proofs.lemmas.List.Splits.{join_with_byte-slice_split, length-slice_split, slice_split_at, slice_split_first, slice_split_none}
 use Rattle.std.proofs.lemmas.List.Sums.{fails_before_first, passes_at_first, split_at_first}
-use Rattle.std.proofs.lemmas.List.{get_or-map, length-map}
+use Rattle.std.proofs.lemmas.List.{get_or-map, length-map, map-append}
 use Rattle.ball_model.specs.WorldText.{node_word}
 use Rattle.ball_model.specs.declared.names.NodeId.{NodeId}
-use Rattle.hyperball.specs.Orders.{AreOrders, IsNodeName, IsOrder, Reads, has_plain_digits, order_text, orders_text}
+use Rattle.hyperball.specs.Orders.{AreOrders, IsNodeName, IsOrder, Reads, SpellsOrders, has_plain_digits, order_text, orders_text}
 
 -- ---- numbers
 
@@ -207,6 +207,35 @@ all-read text pieces os far ended =
       spelled = sym (join_with_byte-slice_split 44 text) ∙ ap (join_with_byte 44) same;
       fit = far.fit;
     }
+
+-- the pieces so far are orders
+pub record SomeSoFar (pieces : List (Bor (List ℕ))) : Type 0 where
+  pub orders : List (NodeId × ℕ)
+  pub far : OrdersSoFar pieces orders
+
+pub none-so-far : SomeSoFar []
+none-so-far = record { orders = []; far = record { spelled = refl; fit = tt } }
+
+fit-push : (os : List (NodeId × ℕ)) (o : NodeId × ℕ) → AllByRecursion IsOrder os → IsOrder o → AllByRecursion IsOrder (os ++ o ∷ [])
+fit-push [] o fit one = (one, tt)
+fit-push (x ∷ os) o fit one = (fit.0, fit-push os o fit.1 one)
+
+pub one-more : (pieces : List (Bor (List ℕ))) (piece : Bor (List ℕ)) (o : NodeId × ℕ) → SomeSoFar pieces → IsOrder o × (piece.now ≡ order_text o) → SomeSoFar (pieces ++ piece ∷ [])
+one-more pieces piece o s is =
+    let now : Bor (List ℕ) → List ℕ = λ p. p.now in
+    record {
+      orders = s.orders ++ o ∷ [];
+      far = record {
+        spelled =
+            map-append now pieces (piece ∷ []) ∙ ap (λ l. l ++ piece.now ∷ []) s.far.spelled ∙ ap (λ (x : List ℕ). map order_text s.orders ++ x ∷ []) is.1
+            ∙ sym (map-append order_text s.orders (o ∷ []));
+        fit = fit-push s.orders o s.far.fit is.0;
+      };
+    }
+
+-- all are
+pub some-read : (text : List ℕ) (pieces : List (Bor (List ℕ))) → SomeSoFar pieces → map (λ piece. piece.now) pieces ≡ slice_split (λ b. b == 44) text → SpellsOrders text
+some-read text pieces s ended = record { orders = s.orders; are = all-read text pieces s.orders s.far ended }
 
 -- one is no order
 pub none-is-read : (text piece : List ℕ) (i : ℕ) → i < length (slice_split (λ b. b == 44) text) → piece ≡ get_or (slice_split (λ b. b == 44) text) i piece →

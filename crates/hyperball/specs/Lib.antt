@@ -9,3 +9,4 @@ pub mod Orders
 pub mod Refusals
 pub mod Nodes
 pub mod Progress
+pub mod Faults

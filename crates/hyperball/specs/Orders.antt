@@ -29,6 +29,11 @@ pub record AreOrders (text : List ℕ) (os : List (NodeId × ℕ)) : Type 0 wher
   pub spelled : text ≡ orders_text os
   pub fit : AllByRecursion IsOrder os
 
+-- the text is a list of orders
+pub record SpellsOrders (text : List ℕ) : Type 0 where
+  pub orders : List (NodeId × ℕ)
+  pub are : AreOrders text orders
+
 -- what was read of a text is the one that it spells, or it spells none
 abbrev pub Reads : {A : Type 0} → (A → Type 0) → (A → List ℕ) → List ℕ → Option A → Type 0
 Reads {A} Fits spell text read =

@@ -126,6 +126,20 @@ pub record AreListed (rows : List Row) (orders : Orders) : Type 0 where
   pub lose : IsListed rows (codes "lose") orders.lose.items
   pub restart : IsListed rows (codes "restart") orders.restart.items
 
+-- each value of these options is a list of orders
+pub record SpellLists (rows : List Row) : Type 0 where
+  pub lose : List (NodeId × ℕ)
+  pub restart : List (NodeId × ℕ)
+  pub lose_is : IsListed rows (codes "lose") lose
+  pub restart_is : IsListed rows (codes "restart") restart
+
+-- so it is of the subcommand's options, or not
+abbrev pub GivesLists : Option (Text × List Row) → Type 0
+GivesLists sub = MatchOption sub ⊥ (λ s. SpellLists s.1)
+
+abbrev pub MisspellsLists : Option (Text × List Row) → Type 0
+MisspellsLists sub = MatchOption sub ⊥ (λ s. SpellLists s.1 → ⊥)
+
 -- a run has the orders of the subcommand's options
 abbrev pub SaysListed : Option (Text × List Row) → Wish → Type 0
 SaysListed sub (wish.Run said) = IfSome sub (λ s. AreListed s.1 said.orders)
@@ -164,6 +178,17 @@ pub record HasOrders (words : List Text) : Type 0 where
   pub parsers : Parsers
   pub take : TakeNames parsers
   pub orders : GivesOrders (subcommand_of (hyperball_app parsers) words)
+
+-- the lists of orders in the words are of their form, as some parsers read them; or one is not
+pub record HasLists (words : List Text) : Type 0 where
+  pub parsers : Parsers
+  pub take : TakeNames parsers
+  pub lists : GivesLists (subcommand_of (hyperball_app parsers) words)
+
+pub record HasNoLists (words : List Text) : Type 0 where
+  pub parsers : Parsers
+  pub take : TakeNames parsers
+  pub misspelt : MisspellsLists (subcommand_of (hyperball_app parsers) words)
 
 -- a run has the orders of the words, as some parsers read them
 pub record SaysOrders (words : List Text) (asked : Wish) : Type 0 where

@@ -4,11 +4,12 @@
 ghost use Rattle.std.specs.Prelude.{◌≡◌, ◌≢◌, Err, OnErr, OnOk};
 ghost use Rattle.std.specs.Io.KnownBytes.{Keeps};
 ghost use Rattle.ball_model.specs.Streams.{Rises};
+ghost use Rattle.hyperball.specs.Faults.{told_of_gathering, told_of_node};
 ghost use Rattle.node.specs.Gathering.{GathersJob};
 ghost use Rattle.node.specs.Job.{job_settings_of};
 ghost use Rattle.node.specs.NoJob.{HasNoNode};
 ghost use Rattle.node.specs.NoReport.{HasNoReport, IsUnwritten, WritesFrontOfJob};
-ghost use Rattle.node.specs.Serving.{IsOfMachine, ServesNode, StopsNode};
+ghost use Rattle.node.specs.Serving.{IsOfMachine, ServesNode, StopsNode, WantsNode};
 ghost use Rattle.node.specs.declared.error.GatherError.{GatherError as NoReport};
 ghost use Rattle.node.specs.declared.error.JobInputError.{JobInputError as NoJob};
 ghost use Rattle.node.specs.declared.error.JobInputError.TheVariants as no_job;
@@ -49,6 +50,26 @@ pub enum GatherFault {
     Gather(GatherError),
 }
 
+// What the end of a node is told as. It takes no memory.
+fn told_of_node(served: Result<(), ServeNodeError>) -> Result<(), NodeFault>
+    ensures { result ≡ told_of_node served }
+{
+    match served {
+        Ok(()) => Ok(()),
+        Err(fault) => Err(NodeFault::Node(fault)),
+    }
+}
+
+// What the end of a gathering is told as. It takes no memory.
+fn told_of_gathering(gathered: Result<(), GatherError>) -> Result<(), GatherFault>
+    ensures { result ≡ told_of_gathering gathered }
+{
+    match gathered {
+        Ok(()) => Ok(()),
+        Err(fault) => Err(GatherFault::Gather(fault)),
+    }
+}
+
 /// A node of these words, which answers the commands in the input until that ends. Where there is a teller, it tells
 /// how the node gets on.
 ///
@@ -76,6 +97,11 @@ pub fn node_by<H: AllocGlobal + RandomSource, T: Teller, R: CountedRead, W: Coun
     ensures refused { (e : NoJob) → result ≡ Err (NodeFault.Node (ServeNodeError.Job e)) → HasNoNode
         (job_settings_of words.now.options) words.now.options.counted words.now.part
         (R.remaining reader.old) (R.remaining reader.new) e }
+    // Behind the job memory is refused only where what was read is requests, and the front of a line or all of a
+    // request.
+    ensures wanting { result ≡ Err (NodeFault.Node (ServeNodeError.Serve no_answer.Memory)) →
+        WantsNode (job_settings_of words.now.options) words.now.options.counted words.now.part
+        (R.remaining reader.old) (R.remaining reader.new) }
     // A call failed exactly where that is told.
     ensures read { result ≡ Err (NodeFault.Node (ServeNodeError.Serve no_answer.Read)) →
         Rises (R.failed_calls reader.old) (R.failed_calls reader.new) }
@@ -97,7 +123,7 @@ pub fn node_by<H: AllocGlobal + RandomSource, T: Teller, R: CountedRead, W: Coun
         return Err(NodeFault::Random);
     };
     let watch = TellingWatch::new(teller);
-    match serve_node(
+    let served = serve_node(
         rt.alloc(),
         state,
         &words.options,
@@ -105,13 +131,11 @@ pub fn node_by<H: AllocGlobal + RandomSource, T: Teller, R: CountedRead, W: Coun
         &watch,
         reader,
         writer,
-    ) {
-        Ok(()) => {
-            watch.after_commands();
-            Ok(())
-        }
-        Err(fault) => Err(NodeFault::Node(fault)),
+    );
+    if served.is_ok() {
+        watch.after_commands();
     }
+    told_of_node(served)
 }
 
 /// The report of the checkpoints in the input, of all partitions of a job. Where there is a teller, it tells how the
@@ -164,11 +188,9 @@ pub fn gather_by<
         return Err(GatherFault::Random);
     };
     let watch = TellingWatch::new(teller);
-    match gather(rt, state, &words.options, &watch, reader, writer) {
-        Ok(()) => {
-            watch.after_gathering();
-            Ok(())
-        }
-        Err(fault) => Err(GatherFault::Gather(fault)),
+    let gathered = gather(rt, state, &words.options, &watch, reader, writer);
+    if gathered.is_ok() {
+        watch.after_gathering();
     }
+    told_of_gathering(gathered)
 }

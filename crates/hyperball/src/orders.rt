@@ -1,10 +1,11 @@
 //! Lists of orders: which replicas are lost or start anew, each at a superstep.
 
-ghost use Rattle.std.specs.Prelude.{◌≡◌, ◌<◌, ◌^◌, IfOk, List, MatchResult, decimal, ℕ};
+ghost use Rattle.std.specs.Prelude.{◌≡◌, ◌<◌, ◌^◌, Err, IfOk, List, MatchResult, decimal, false, true};
+ghost use Rattle.std.specs.Prelude.{ℕ};
 ghost use Rattle.ball_model.specs.WorldText.{node_word};
 ghost use Rattle.ball_model.specs.declared.names.NodeId.{NodeId as Node};
 ghost use Rattle.hyperball.specs.Orders.{AreOrders, IsNodeName, IsOrder, Reads, has_plain_digits};
-ghost use Rattle.hyperball.specs.Orders.{order_text};
+ghost use Rattle.hyperball.specs.Orders.{SpellsOrders, order_text};
 
 use ball_model::NodeId;
 use std::alloc::Global;
@@ -83,14 +84,33 @@ fn order_in(text: &str) -> Option<(NodeId, u32)>
     Some((node, superstep))
 }
 
-/// The orders of a text: each P.K@S, for replica K of partition P at superstep S, with commas between them. Numbers are
-/// decimal, of at most 9 digits, without leading zeros.
+/// Whether a text is a list of orders: each P.K@S, for replica K of partition P at superstep S, with commas between them.
+/// Numbers are decimal, of at most 9 digits, without leading zeros. It takes no memory.
+pub fn are_orders(text: &str) -> bool
+    ensures yes { result ≡ true → SpellsOrders text.now }
+    ensures no { (os : List (Node × ℕ)) → result ≡ false → AreOrders text.now os → ⊥ }
+{
+    for piece in text.split(',') {
+        let Some(_) = order_in(piece) else {
+            return false;
+        };
+    }
+    true
+}
+
+/// The orders of a text. Memory is asked for once it is known that the text is a list of orders.
 pub fn orders_in(alloc: Global, text: &str) -> Result<Vec<(NodeId, u32)>, OrdersError>
     ensures ok { IfOk result (λ os. AreOrders text.now os.items) }
     ensures read { (os : List (Node × ℕ)) → AreOrders text.now os →
         MatchResult result (λ found. found.items ≡ os) (λ e. e ≡ OrdersError.Memory) }
+    // Memory is refused only to a list of orders.
+    ensures memory { result ≡ Err OrdersError.Memory → SpellsOrders text.now }
 {
+    if !are_orders(text) {
+        return Err(OrdersError::Form);
+    }
     let mut orders = Vec::new(alloc);
+    // each piece is one
     for piece in text.split(',') {
         let Some(order) = order_in(piece) else {
             return Err(OrdersError::Form);

@@ -12,12 +12,14 @@ ghost use Rattle.edgelist.specs.declared.read.EdgeError.TheVariants as edge_faul
 ghost use Rattle.hyperball.specs.Whole.{ReadsFew};
 ghost use Rattle.hyperball.specs.Options.{options_of, settings_in};
 ghost use Rattle.hyperball.specs.Progress.{Awaits, TellsAsAsked, TellsProgress};
+ghost use Rattle.hyperball.specs.Faults.{BeginsNothing, FailsGathering, FailsNode, FailsReplaying};
+ghost use Rattle.hyperball.specs.Faults.{FailsRun, FailsRunOf};
 ghost use Rattle.hyperball.specs.Refusals.{IsFault, ReadsEdges, ReadsListed};
 ghost use Rattle.hyperball.specs.Replaying.{BeginsSome, BeginsToServe, IsReplay, SaysRun};
 ghost use Rattle.hyperball.specs.Replaying.{ServesReplay};
 ghost use Rattle.hyperball.specs.declared.replay_words.ReplayWords.{ReplayWords as Replayed};
-ghost use Rattle.hyperball.specs.Words.{AreMistakes, AsksProgress, FailsFor, HasFaults, HasOrders};
-ghost use Rattle.hyperball.specs.Words.{IsMistake, IsRun, Reports, SaysProgress, Serves};
+ghost use Rattle.hyperball.specs.Words.{AreMistakes, AsksProgress, FailsFor, HasFaults, HasNoLists};
+ghost use Rattle.hyperball.specs.Words.{HasOrders, IsMistake, IsRun, Reports, SaysProgress, Serves};
 ghost use Rattle.hyperball.specs.Words.{listed_words, texts_of};
 ghost use Rattle.hyperball.specs.Nodes.{AsksGather, AsksNode, IsGather, IsNode};
 ghost use Rattle.hyperball.specs.declared.node_words.GatherWords.{GatherWords as Gathered};
@@ -375,6 +377,8 @@ fn run_status<
         Serves said.words (R.remaining reader.old) W.contents writer.old writer.new }
     ensures few { said.words.counted ≡ true →
         ReadsFew (R.remaining reader.old) (R.remaining reader.new) }
+    ensures fault { result ≡ 1 → FailsRun said R.remaining R.failed_calls R.sure_calls
+        reader.old reader.new }
     ensures kept { result ≡ 1 →
         KeptOrFailed W.contents W.failed_calls writer.old writer.new }
     ensures told { result ≡ 0 → TellsAsAsked (said.progress ≡ false)
@@ -401,6 +405,8 @@ fn replay_status<H: AllocGlobal + RandomSource, R: CountedRead, W: CountedWrite,
     ensures done { result ≡ 0 →
         ServesReplay words.now (R.remaining reader.old) W.contents writer.old writer.new }
     ensures few { ReadsFew (R.remaining reader.old) (R.remaining reader.new) }
+    ensures fault { result ≡ 1 → FailsReplaying words.now R.remaining R.failed_calls R.sure_calls
+        W.contents W.failed_calls reader.old reader.new writer.old writer.new }
     ensures begun { result ≡ 1 → BeginsToServe words.now (R.remaining reader.old)
         W.contents W.failed_calls writer.old writer.new }
     ensures told { result ≡ 0 → TellsAsAsked (words.now.progress ≡ false)
@@ -431,6 +437,8 @@ fn node_status<H: AllocGlobal + RandomSource, R: CountedRead, W: CountedWrite, F
     // It is done only where no call failed.
     ensures read { result ≡ 0 → R.failed_calls reader.new ≡ R.failed_calls reader.old }
     ensures written { result ≡ 0 → W.failed_calls writer.new ≡ W.failed_calls writer.old }
+    ensures fault { result ≡ 1 → FailsNode words.now R.remaining R.failed_calls
+        W.contents W.failed_calls reader.old reader.new writer.old writer.new }
     ensures told { result ≡ 0 → TellsAsAsked (words.now.progress ≡ false)
         (F.contents faults.old) (F.contents faults.new) }
 {
@@ -458,6 +466,8 @@ fn gather_status<
     // It is done only where no call failed.
     ensures read { result ≡ 0 → R.failed_calls reader.new ≡ R.failed_calls reader.old }
     ensures written { result ≡ 0 → W.failed_calls writer.new ≡ W.failed_calls writer.old }
+    ensures fault { result ≡ 1 → FailsGathering words.now R.remaining R.failed_calls
+        W.contents W.failed_calls reader.old reader.new writer.old writer.new }
     ensures begun { result ≡ 1 → WritesFrontOfJob
         (job_settings_of words.now.options) words.now.options.counted
         (R.remaining reader.old) (R.remaining reader.new)
@@ -515,6 +525,17 @@ fn serve_wish<
         (job_settings_of w.options) w.options.counted
         (R.remaining reader.old) (R.remaining reader.new)
         (W.contents writer.old) (W.contents writer.new) }
+    ensures run_fault { (said : Asking) → wish ≡ Wish.Run said → result ≡ 1 →
+        FailsRun said R.remaining R.failed_calls R.sure_calls reader.old reader.new }
+    ensures replay_fault { (w : Replayed) → wish ≡ Wish.Replay w → result ≡ 1 →
+        FailsReplaying w R.remaining R.failed_calls R.sure_calls W.contents W.failed_calls
+        reader.old reader.new writer.old writer.new }
+    ensures node_fault { (w : Noded) → wish ≡ Wish.Node w → result ≡ 1 →
+        FailsNode w R.remaining R.failed_calls W.contents W.failed_calls
+        reader.old reader.new writer.old writer.new }
+    ensures gather_fault { (w : Gathered) → wish ≡ Wish.Gather w → result ≡ 1 →
+        FailsGathering w R.remaining R.failed_calls W.contents W.failed_calls
+        reader.old reader.new writer.old writer.new }
     ensures told { result ≡ 0 → TellsAsAsked (SaysProgress false wish)
         (F.contents faults.old) (F.contents faults.new) }
 {
@@ -578,6 +599,30 @@ pub fn serve<
         result ≡ 0 → AppendsSome (W.contents writer.old) (W.contents writer.new) }
     ensures status { result ≤ 2 }
     ensures two { result ≡ 2 → HasFaults (texts_of words.now) [] → HasOrders (texts_of words.now) }
+    // Where clap accepts the words, status 2 comes only from a list of orders that is not of its form.
+    ensures misspelt { result ≡ 2 → HasFaults (texts_of words.now) [] →
+        HasNoLists (texts_of words.now) }
+    // Status 1 comes only from a fault, or where memory was refused before a command began.
+    ensures run_fault { (w : Run) → IsRun (texts_of words.now) w → result ≡ 1 →
+        BeginsNothing R.remaining W.contents W.failed_calls
+        reader.old reader.new writer.old writer.new
+        ⊎ FailsRunOf (texts_of words.now) w R.remaining R.failed_calls R.sure_calls
+        reader.old reader.new }
+    ensures replay_fault { (w : Replayed) → IsReplay (texts_of words.now) w → result ≡ 1 →
+        BeginsNothing R.remaining W.contents W.failed_calls
+        reader.old reader.new writer.old writer.new
+        ⊎ FailsReplaying w R.remaining R.failed_calls R.sure_calls W.contents W.failed_calls
+        reader.old reader.new writer.old writer.new }
+    ensures node_fault { (w : Noded) → IsNode (texts_of words.now) w → result ≡ 1 →
+        BeginsNothing R.remaining W.contents W.failed_calls
+        reader.old reader.new writer.old writer.new
+        ⊎ FailsNode w R.remaining R.failed_calls W.contents W.failed_calls
+        reader.old reader.new writer.old writer.new }
+    ensures gather_fault { (w : Gathered) → IsGather (texts_of words.now) w → result ≡ 1 →
+        BeginsNothing R.remaining W.contents W.failed_calls
+        reader.old reader.new writer.old writer.new
+        ⊎ FailsGathering w R.remaining R.failed_calls W.contents W.failed_calls
+        reader.old reader.new writer.old writer.new }
     ensures two_kept { result ≡ 2 → Keeps (W.contents writer.old) (W.contents writer.new) }
     ensures one_kept { result ≡ 1 →
         KeptOrFailed W.contents W.failed_calls writer.old writer.new

@@ -13,7 +13,7 @@ mod vectors;
 mod words;
 
 use crate::serve::serve;
-use ball_model::{CountingReader, CountingWriter};
+use ball_model::{CountedRead, CountedWrite, CountingReader, CountingWriter};
 use fakes::{Compared, Given, Heard, Lines};
 use std::alloc::{AllocError, Global};
 use std::process::Abort;
@@ -90,12 +90,14 @@ static OPEN: Flow = Flow {
     told: usize::MAX,
 };
 
-/// How words ended: whether they were served, and told just the lines of progress that are wanted; the status; what was
-/// written; what was told, and the same beside what is told of refused memory.
+/// How words ended: whether they were served, and told just the lines of progress that are wanted; the status; how many
+/// calls of the reader and the writer failed; what was written; what was told, and the same beside what is told of
+/// refused memory.
 #[derive(Clone, Copy)]
 struct End {
     served: bool,
     status: u8,
+    failures: u64,
     output: Compared,
     faults: Compared,
     refused: Compared,
@@ -123,9 +125,11 @@ fn end_of<H: Host>(rt: &H, words: &[String], case: &Case, flow: &Flow, lines: &L
     let mut writer = CountingWriter::new(&mut output);
     let mut told = Heard::new(case.4, flow.told, lines);
     let status = serve(rt, words, &mut reader, &mut writer, &mut told);
+    let failures = reader.failures().saturating_add(writer.failures());
     End {
         served: true,
         status,
+        failures,
         output,
         faults: told.text,
         refused: told.refused,
@@ -138,6 +142,7 @@ fn no_end() -> End {
     End {
         served: false,
         status: 0,
+        failures: 0,
         output: nothing,
         faults: nothing,
         refused: nothing,

@@ -1,7 +1,8 @@
 //! The command line, read by `clap`.
 
 ghost use Rattle.std.specs.Prelude.{◌≡◌, [], Err, IfErr, IfOk, IfSome, List, MatchOption};
-ghost use Rattle.std.specs.Prelude.{is_some, true, Bool, codes, option_map, Ok};
+ghost use Rattle.std.specs.Prelude.{is_some, false, true, Bool, codes, option_map, Ok, MatchResult};
+ghost use Rattle.std.specs.Prelude.{⊤, ℕ};
 ghost use Rattle.clap.specs.Words.{App, found_of, has_subcommand, rows_of};
 ghost use Rattle.clap.specs.Words.{subcommand_rows_of, with_subcommand};
 ghost use Rattle.clap.specs.declared.error.kind.ErrorKind.{ErrorKind as Kind};
@@ -12,9 +13,10 @@ ghost use Rattle.hyperball.specs.CommandLine.{with_large, with_orders, with_prog
 ghost use Rattle.hyperball.specs.declared.words.RunWords.{RunWords as Run};
 ghost use Rattle.hyperball.specs.Replaying.{AsksReplay, IsReplay, IsReplayOf, NamesReplay, SaysRun};
 ghost use Rattle.hyperball.specs.declared.replay_words.ReplayWords.{ReplayWords as Replayed};
-ghost use Rattle.hyperball.specs.Orders.{AreOrders};
+ghost use Rattle.hyperball.specs.Orders.{AreOrders, SpellsOrders};
 ghost use Rattle.hyperball.specs.Words.{AreListed, AreOptionsOf, AreOrdersIn, FailsWith};
-ghost use Rattle.hyperball.specs.Words.{GivesOrders, HasFaults, HasOrders, IsRun, IsRunOf};
+ghost use Rattle.hyperball.specs.Words.{GivesLists, GivesOrders, HasFaults, HasLists, HasNoLists};
+ghost use Rattle.hyperball.specs.Words.{HasOrders, IsRun, IsRunOf, MisspellsLists, SpellLists};
 ghost use Rattle.hyperball.specs.Words.{ParsesTo, SaysListed, AsksProgress, GivesProgress, IsFlag};
 ghost use Rattle.hyperball.specs.Words.{SaysOrders, SaysProgress, delimiter_name, estimate_name};
 ghost use Rattle.hyperball.specs.Words.{texts_of};
@@ -22,6 +24,7 @@ ghost use Rattle.hyperball.specs.Nodes.{AsksGather, AsksNode, IsGather, IsGather
 ghost use Rattle.hyperball.specs.Nodes.{IsNodeOf, NamesGather, NamesNode};
 ghost use Rattle.hyperball.specs.declared.node_words.GatherWords.{GatherWords as Gathered};
 ghost use Rattle.hyperball.specs.declared.node_words.NodeWords.{NodeWords as Noded};
+ghost use Rattle.ball_model.specs.declared.names.NodeId.{NodeId as Node};
 ghost use Rattle.ball_model.specs.declared.plan.Estimate.{Estimate as Made};
 ghost use Rattle.ball_model.specs.declared.plan.Estimate.TheVariants.{Raw};
 ghost use Rattle.edgelist.specs.declared.read.Delimiter.{Delimiter as Between};
@@ -33,7 +36,7 @@ use crate::node_words::{
     GatherWords, NodeWords, gather_command, gather_words_of, node_command, node_words_of,
 };
 use crate::options::{Options, Orders, USUAL};
-use crate::orders::{OrdersError, orders_in};
+use crate::orders::{OrdersError, are_orders, orders_in};
 use crate::replay_words::{ReplayWords, replay_command, replay_words_of};
 use ball_model::{Estimate, NodeId};
 use clap::builder::ValueParser;
@@ -298,6 +301,20 @@ pub fn wants_progress(matches: &ArgMatches<'_>) -> bool
     matches.get_flag("progress")
 }
 
+// Whether a list is of its form, where one is given.
+fn is_listed(text: Option<&str>) -> bool
+    ensures yes { result ≡ true →
+        MatchOption (option_map (λ text. text.now) text.entry) ⊤ SpellsOrders }
+    ensures no { (os : List (Node × ℕ)) → result ≡ false →
+        MatchOption (option_map (λ text. text.now) text.entry)
+        (os ≡ []) (λ text. AreOrders text os) → ⊥ }
+{
+    match text {
+        Some(text) => are_orders(text),
+        None => true,
+    }
+}
+
 // The orders of a list, where one is given.
 fn listed_orders(alloc: Global, text: Option<&str>) -> Result<Vec<(NodeId, u32)>, OrdersError>
     ensures listed { IfOk result (λ os.
@@ -305,6 +322,14 @@ fn listed_orders(alloc: Global, text: Option<&str>) -> Result<Vec<(NodeId, u32)>
         (os.items ≡ []) (λ text. AreOrders text os.items)) }
     ensures form { IfErr result (λ e. e ≡ OrdersError.Form →
         is_some (option_map (λ text. text.now) text.entry) ≡ true) }
+    // A list that is of its form is not refused.
+    ensures read { (os : List (Node × ℕ)) →
+        MatchOption (option_map (λ text. text.now) text.entry)
+        (os ≡ []) (λ text. AreOrders text os) →
+        MatchResult result (λ found. found.items ≡ os) (λ e. e ≡ OrdersError.Memory) }
+    // Memory is refused only to a list that is of its form.
+    ensures memory { IfErr result (λ e. e ≡ OrdersError.Memory →
+        MatchOption (option_map (λ text. text.now) text.entry) ⊥ SpellsOrders) }
 {
     match text {
         Some(text) => orders_in(alloc, text),
@@ -312,15 +337,24 @@ fn listed_orders(alloc: Global, text: Option<&str>) -> Result<Vec<(NodeId, u32)>
     }
 }
 
-// The lists of orders of a run.
+// The lists of orders of a run. Both are looked at before memory is asked for.
 fn orders_of(alloc: Global, matches: &ArgMatches<'_>) -> Result<Orders, OrdersError>
     ensures listed { IfOk result (AreListed (rows_of (found_of matches.now))) }
     ensures form { IfErr result (λ e. e ≡ OrdersError.Form →
         AreOrdersIn (rows_of (found_of matches.now))) }
+    // A list is refused only where one is not of its form, and memory only where both are.
+    ensures misspelt { IfErr result (λ e. e ≡ OrdersError.Form →
+        SpellLists (rows_of (found_of matches.now)) → ⊥) }
+    ensures memory { IfErr result (λ e. e ≡ OrdersError.Memory →
+        SpellLists (rows_of (found_of matches.now))) }
 {
+    let restart = matches.get_str("restart");
+    if !is_listed(restart) {
+        return Err(OrdersError::Form);
+    }
     match listed_orders(alloc, matches.get_str("lose")) {
         Err(error) => Err(error),
-        Ok(lose) => match listed_orders(alloc, matches.get_str("restart")) {
+        Ok(lose) => match listed_orders(alloc, restart) {
             Err(error) => Err(error),
             Ok(restart) => Ok(Orders { lose, restart }),
         },
@@ -372,6 +406,10 @@ fn run_words(alloc: Global, matches: &ArgMatches<'_>) -> Result<Said, WordsError
     ensures none { FailsWith [] result }
     ensures form { result ≡ Err (WordsError.Orders OrdersError.Form) →
         GivesOrders (subcommand_rows_of matches.now) }
+    ensures misspelt { result ≡ Err (WordsError.Orders OrdersError.Form) →
+        MisspellsLists (subcommand_rows_of matches.now) }
+    ensures memory { result ≡ Err (WordsError.Orders OrdersError.Memory) →
+        GivesLists (subcommand_rows_of matches.now) }
 {
     let (_, inner) = matches.subcommand().unwrap();
     match orders_of(alloc, inner) {
@@ -407,6 +445,10 @@ fn wish_of(alloc: Global, matches: &ArgMatches<'_>) -> Result<Wish, WordsError>
     ensures none { FailsWith [] result }
     ensures form { result ≡ Err (WordsError.Orders OrdersError.Form) →
         GivesOrders (subcommand_rows_of matches.now) }
+    ensures misspelt { result ≡ Err (WordsError.Orders OrdersError.Form) →
+        MisspellsLists (subcommand_rows_of matches.now) }
+    ensures memory { result ≡ Err (WordsError.Orders OrdersError.Memory) →
+        GivesLists (subcommand_rows_of matches.now) }
 {
     match matches.subcommand().unwrap() {
         ("replay", inner) => Ok(Wish::Replay(replay_words_of(inner))),
@@ -440,6 +482,11 @@ pub fn read_words(alloc: Global, words: &[String]) -> Result<Wish, WordsError>
         FailsWith kinds result }
     ensures form { result ≡ Err (WordsError.Orders OrdersError.Form) →
         HasOrders (texts_of words.now) }
+    // Lists of orders are refused only where one is not of its form, and memory for them only where each is.
+    ensures misspelt { result ≡ Err (WordsError.Orders OrdersError.Form) →
+        HasNoLists (texts_of words.now) }
+    ensures memory { result ≡ Err (WordsError.Orders OrdersError.Memory) →
+        HasLists (texts_of words.now) }
 {
     match parse(alloc, words) {
         Ok(matches) => wish_of(alloc, &matches),

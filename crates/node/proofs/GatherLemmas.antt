@@ -1,5 +1,5 @@
 -- Checkpoints of partitions, one after the other.
-use Rattle.std.proofs.Common.{◌≡◌, ◌≢◌, ◌∙◌, inl, inr, ℕ, zero, suc, ◌+◌, ◌<◌, ◌==◌, ◌&&◌, Bool, true, false, if◌then◌else◌, List, [], ◌∷◌, ◌++◌, length, get_or, refl, ap, sym, subst, append_assoc, append-nil, length-append, arith}
+use Rattle.std.proofs.Common.{◌≡◌, ◌≢◌, ◌∙◌, inl, inr, ℕ, zero, suc, ◌+◌, ◌<◌, ◌≤◌, ◌==◌, ◌&&◌, Bool, true, false, if◌then◌else◌, List, [], ◌∷◌, ◌++◌, length, get_or, refl, ap, sym, subst, append_assoc, append-nil, length-append, arith}
 use Rattle.std.specs.Prelude.{Option, None, Some, codes, decimal, nat_lt, ◌^◌}
 use Rattle.std.specs.Str.{bytes_eq}
 use Rattle.std.proofs.lemmas.Bool.{eqb-true}
@@ -16,7 +16,7 @@ use Rattle.ball_model.specs.Job.{Job, IsJob, PartValue, part_of}
 use Rattle.ball_model.specs.PlanValue.{PlanValue}
 use Rattle.ball_model.specs.State.{State, StandsFor}
 use Rattle.report.specs.Ready.{AllStand, are_ready, job_report}
-use Rattle.node.specs.Gathering.{AreGivenBack, AreMadeOf, AreCheckpointsFrom, Gathers, IsMadeOf, ReadsAll, ReadsCheckpoint, part_line, part_text, parts_text}
+use Rattle.node.specs.Gathering.{AreGivenBack, AreMadeOf, AreCheckpointsFrom, Gathers, IsMadeOf, ReadsAll, ReadsCheckpoint, part_line, part_text, parts_text, told_report}
 use Rattle.ball_model.specs.Streams.{PutsFront}
 use Rattle.ball_model.specs.Input.{Network}
 use Rattle.ball_model.specs.Job.{job_of}
@@ -26,10 +26,13 @@ use Rattle.checkpoint.specs.declared.error.KeepError.{KeepError}
 use Rattle.checkpoint.specs.declared.error.KeepError.TheVariants as unkept
 use Rattle.node.specs.declared.error.GatherError.{GatherError}
 use Rattle.node.specs.declared.error.GatherError.TheVariants as fault
-use Rattle.node.specs.NoReport.{AreUnready, EndsWithin, IsNoReplica, IsNoReport, ReadsNoCheckpoint, StopsAtPart, WritesFront, WritesFrontOfJob, told_kept}
+use Rattle.node.specs.NoReport.{AreUnready, EndsWithin, IsNoReplica, IsNoReport, LacksPartRoom, LacksReportRoom, ReadsNoCheckpoint, StopsAtPart, WritesFront, WritesFrontOfJob, told_kept}
 use Rattle.node.specs.Job.{IsJobRead}
 use Rattle.node.specs.Refusals.{IsNoCheckpoint}
-use Rattle.node.specs.Stream.{CutsBody}
+use Rattle.node.specs.Stream.{CutsBody, ReadsBody, ReadsInLine}
+use Rattle.checkpoint.specs.Reading.{most_checkpoint_bytes}
+use Rattle.report.specs.declared.write.ReportError.{ReportError}
+use Rattle.report.specs.declared.write.ReportError.TheVariants as unreported
 use Rattle.node.specs.NodeText.{size_in}
 
 -- ---- one more
@@ -180,6 +183,34 @@ cut_part_body n m size a b c same line cut = (
 pub other_part : (n : ℕ) (part : PartValue) (a b : Option (List ℕ)) (body : List ℕ) (e : KeepError) → n ≡ part.number → Consumes a b (part_text body) → IsNoCheckpoint part body e → (n ≡ part.number) × ReadsNoCheckpoint part a b e
 other_part n part a b body e same read other = (same, record { body = body; consumed = read; no_checkpoint = other })
 
+-- ---- where memory is refused
+pub nothing_lacks : (part : PartValue) (a : Option (List ℕ)) → LacksPartRoom part a a
+nothing_lacks part a = record { front = []; within = inl refl; consumed = Consumes-nil a }
+
+pub part_line_lacks : (part : PartValue) (a b : Option (List ℕ)) → ReadsInLine a b → LacksPartRoom part a b
+part_line_lacks part a b r = record { front = r.bytes; within = inr (inl (r.one_line, r.first)); consumed = r.consumed }
+
+text_lacks : (part : PartValue) (a b : Option (List ℕ)) (body : List ℕ) → length body ≤ most_checkpoint_bytes part part.plan.limit → Consumes a b (part_text body) → LacksPartRoom part a b
+text_lacks part a b body few read = record { front = part_text body; within = inr (inr (record { body = body; few = few; front_is = refl })); consumed = read }
+
+pub body_lacks : (part : PartValue) (a b c : Option (List ℕ)) (n : ℕ) → n ≤ most_checkpoint_bytes part part.plan.limit → Consumes a b (part_line n) → ReadsBody n b c → LacksPartRoom part a c
+body_lacks part a b c n few line body =
+    let long = body.long in
+    text_lacks part a c body.bytes (omega (arith, few, long)) (reads_part a b c n body.bytes line body.consumed long)
+
+-- all of a checkpoint was read
+pub read_lacks : (j : Job) (p : ℕ) (a b : Option (List ℕ)) (v : State) → ReadsCheckpoint j p a b v → LacksPartRoom (part_of j p) a b
+read_lacks j p a b v r = text_lacks (part_of j p) a b r.body r.made.is.few r.consumed
+
+-- nothing was read
+pub start_lacks : (j : Job) (a : Option (List ℕ)) → 0 < j.plan.parts → LacksReportRoom j a a
+start_lacks j a some = inl (record { p = 0; below = some; replicas = []; mid = a; before = reads_none j a; at = nothing_lacks (part_of j 0) a })
+
+-- all is ready
+pub ready_lacks : (j : Job) (a c : Option (List ℕ)) (vs : List State) (e : ReportError) → ReadsAll j j.plan.parts a c vs → IsAtEnd c → are_ready vs ≡ true → IsNoReport j a c (told_report e)
+ready_lacks j a c vs unreported.Memory before end ready = inr (record { replicas = vs; before = before; end = end; ready = ready })
+ready_lacks j a c vs unreported.Write before end ready = tt
+
 -- ---- why there is no report
 pub stops_at_part : (j : Job) (a b : Option (List ℕ)) (e : GatherError) → StopsAtPart j a b e → IsNoReport j a b e
 stops_at_part j a b (fault.Job e) s = absurd s.at
@@ -190,7 +221,7 @@ stops_at_part j a b (fault.Cut p) s = s
 stops_at_part j a b (fault.Checkpoint p e) s = s
 stops_at_part j a b fault.Trailing s = absurd s.at
 stops_at_part j a b fault.NotReady s = absurd s.at
-stops_at_part j a b fault.Memory s = tt
+stops_at_part j a b fault.Memory s = inl s
 stops_at_part j a b fault.Read s = tt
 stops_at_part j a b fault.Write s = tt
 
@@ -219,15 +250,15 @@ front_of_job s counted network plan a b c x y job (inl kept) = inl kept
 front_of_job s counted network plan a b c x y job (inr front) = inr (record { network = network; plan = plan; mid = b; job = job; gathers = front })
 
 -- ---- what is told of bytes that are no checkpoint
-pub told_other : (p : ℕ) (part : PartValue) (a b : Option (List ℕ)) (body : List ℕ) (e : KeepError) → p ≡ part.number → Consumes a b (part_text body) → (e ≢ unkept.Memory → IsNoCheckpoint part body e) → IsNoReplica part a b (told_kept p e)
-told_other p part a b body unkept.Memory same read named = tt
-told_other p part a b body unkept.Write same read named = other_part p part a b body unkept.Write same read (named (λ e. absurd (cc)))
-told_other p part a b body unkept.Read same read named = other_part p part a b body unkept.Read same read (named (λ e. absurd (cc)))
-told_other p part a b body unkept.Short same read named = other_part p part a b body unkept.Short same read (named (λ e. absurd (cc)))
-told_other p part a b body unkept.Magic same read named = other_part p part a b body unkept.Magic same read (named (λ e. absurd (cc)))
-told_other p part a b body unkept.Version same read named = other_part p part a b body unkept.Version same read (named (λ e. absurd (cc)))
-told_other p part a b body unkept.OtherJob same read named = other_part p part a b body unkept.OtherJob same read (named (λ e. absurd (cc)))
-told_other p part a b body unkept.OtherPart same read named = other_part p part a b body unkept.OtherPart same read (named (λ e. absurd (cc)))
-told_other p part a b body unkept.Shape same read named = other_part p part a b body unkept.Shape same read (named (λ e. absurd (cc)))
-told_other p part a b body unkept.Digest same read named = other_part p part a b body unkept.Digest same read (named (λ e. absurd (cc)))
-told_other p part a b body unkept.Trailing same read named = other_part p part a b body unkept.Trailing same read (named (λ e. absurd (cc)))
+pub told_other : (p : ℕ) (part : PartValue) (a b : Option (List ℕ)) (body : List ℕ) (e : KeepError) → length body ≤ most_checkpoint_bytes part part.plan.limit → p ≡ part.number → Consumes a b (part_text body) → (e ≢ unkept.Memory → IsNoCheckpoint part body e) → IsNoReplica part a b (told_kept p e)
+told_other p part a b body unkept.Memory few same read named = text_lacks part a b body few read
+told_other p part a b body unkept.Write few same read named = other_part p part a b body unkept.Write same read (named (λ e. absurd (cc)))
+told_other p part a b body unkept.Read few same read named = other_part p part a b body unkept.Read same read (named (λ e. absurd (cc)))
+told_other p part a b body unkept.Short few same read named = other_part p part a b body unkept.Short same read (named (λ e. absurd (cc)))
+told_other p part a b body unkept.Magic few same read named = other_part p part a b body unkept.Magic same read (named (λ e. absurd (cc)))
+told_other p part a b body unkept.Version few same read named = other_part p part a b body unkept.Version same read (named (λ e. absurd (cc)))
+told_other p part a b body unkept.OtherJob few same read named = other_part p part a b body unkept.OtherJob same read (named (λ e. absurd (cc)))
+told_other p part a b body unkept.OtherPart few same read named = other_part p part a b body unkept.OtherPart same read (named (λ e. absurd (cc)))
+told_other p part a b body unkept.Shape few same read named = other_part p part a b body unkept.Shape same read (named (λ e. absurd (cc)))
+told_other p part a b body unkept.Digest few same read named = other_part p part a b body unkept.Digest same read (named (λ e. absurd (cc)))
+told_other p part a b body unkept.Trailing few same read named = other_part p part a b body unkept.Trailing same read (named (λ e. absurd (cc)))

@@ -19,10 +19,10 @@ use Rattle.edgelist.specs.declared.pieces.EdgeReader.{EdgeReader}
 use Rattle.edgelist.specs.declared.read.Delimiter.{Delimiter}
 use Rattle.node.specs.declared.error.JobInputError.{JobInputError}
 use Rattle.node.specs.declared.error.JobInputError.TheVariants as nojob
-use Rattle.node.specs.Job.{CountsSome, GivesAll, GivesEdges, GivesSection, IsJobRead, IsPlanned}
-use Rattle.node.specs.NoJob.{HasNoNode, IsNoNetwork, IsNoStart, IsRefused, LacksListMark, LacksMark}
+use Rattle.node.specs.Job.{CountsSome, GivesAll, GivesEdges, GivesSection, IsJobRead, IsPlanned, SaysNetwork}
+use Rattle.node.specs.NoJob.{GoesBeyond, HasNoNode, IsNoJob, IsNoNetwork, IsNoStart, IsRefused, IsUnplanned, LacksListMark, LacksMark}
 use Rattle.node.specs.declared.limits.TheConstants.{MOST_BYTES}
-use Rattle.node.specs.Section.{EndsAtMark, Gives, ReadsSection, first_or}
+use Rattle.node.specs.Section.{EndsAtMark, Gives, ReadsSection, before_mark, first_or}
 use Rattle.node.proofs.SectionLemmas.{FrontGoesOn, Passed, passed_end, passed_more, passed_next, passed_over, passed_start, passed_whole, section_before}
 
 -- ---- the edge list
@@ -156,6 +156,20 @@ lacks_list_mark list begins x y p end few = record { none = passed_over list beg
     few_read : (o : Option (List ℕ)) → IfSome o (λ text. text ≡ list) → IfSome o (λ text. length text ≤ MOST_BYTES)
     few_read None is = tt
     few_read (Some text) is = subst (λ (l : List ℕ). length l ≤ MOST_BYTES) (sym is) few
+
+-- more of the list follows
+pub goes_beyond : (list : List ℕ) (begins : Bool) (c : ℕ) (x y z : Option (List ℕ)) → Passed list begins x y → Gives begins c y z → GoesBeyond (length list) x
+goes_beyond list begins c None y z p one = tt
+goes_beyond list begins c (Some text) y z p one =
+    let goes = passed_next list begins c (Some text) y z p one in
+    let is : length (before_mark text) ≡ length (list ++ c ∷ goes.more) = ap length goes.before_is in
+    omega (arith, is, length-append list (c ∷ goes.more))
+
+-- ---- the plan is refused
+pub unplanned : (s : Settings) (counted : Bool) (x y z : Option (List ℕ)) (all network : Network) (e : JobInputError) → SaysNetwork s x y all → CountsSome s counted y z all network → IsUnplanned (plan_asked s.numbers network.graph) e →
+    IsNoJob s counted x z e
+unplanned s counted x y z all network (nojob.Plan e) edges list due = record { all = all; network = network; mid = y; edges = edges; list = list; refused = due }
+unplanned s counted x y z all network e edges list due = absurd due
 
 -- ---- a node of the job
 pub no_start : (s : Settings) (counted : Bool) (p : ℕ) (x y : Option (List ℕ)) (network : Network) (plan : PlanValue) (e : JobInputError) → IsJobRead s counted x y network plan → IsNoStart plan p e →

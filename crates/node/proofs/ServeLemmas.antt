@@ -249,7 +249,7 @@ machine_stops part n fault.Write a b is lacks = tt
 
 -- memory is refused within a line
 pub line_lacks : (part : PartValue) (a b : Option (List ℕ)) → ReadsInLine a b → LacksRoom part a b
-line_lacks part a b r = record { front = r.bytes; some = r.some; within = inl r.one_line; consumed = r.consumed }
+line_lacks part a b r = record { front = r.bytes; some = r.some; within = inl (r.one_line, r.first); consumed = r.consumed }
 
 -- or where a request is all there
 pub request_lacks : (part : PartValue) (a b : Option (List ℕ)) (line : List ℕ) (order : Command) (body : List ℕ) → ReadsRequest part a b line order body → LacksRoom part a b

@@ -5,7 +5,8 @@ use Rattle.std.proofs.lemmas.List.{nil_from_length}
 use Rattle.std.proofs.lemmas.Result.{IfOk-from_err}
 use Rattle.ball_model.specs.Content.{same_plan}
 use Rattle.replica.proofs.RunsLemmas.Run.{same_plan-self}
-use Rattle.std.specs.Prelude.{Option, None, Some, Result, Ok, Err, IfOk, IfErr, IsOk, OnOk, is_ok}
+use Rattle.std.specs.Prelude.{Option, None, Some, Result, Ok, Err, IfOk, IfErr, IsOk, OnOk, is_ok, max}
+use Rattle.replica.specs.Merged.{merge_answer}
 use Rattle.ball_model.specs.declared.names.BatchName.{BatchName}
 use Rattle.ball_model.specs.declared.names.Taken.{Taken}
 use Rattle.ball_model.specs.declared.names.TakeError.{TakeError}
@@ -43,7 +44,7 @@ use Rattle.world.proofs.NodeLemmas.{MergesWith, close_turns, fine, node, recover
 use Rattle.node.specs.declared.session.Reply.{Reply}
 use Rattle.node.specs.declared.session.Reply.TheVariants as reply
 use Rattle.node.specs.NodeText.{IsDelivered, IsGivenBack}
-use Rattle.node.specs.Turns.{GivesOrWants, Holds, SaysMerged, TurnsTo}
+use Rattle.node.specs.Turns.{GivesOrWants, Holds, SaysMerged, TakesBoth, TurnsTo}
 use Rattle.node.specs.Refusals.{IsAnswered, IsNodeCheckpoint, IsNoCheckpoint, SaysOfBatch, SaysOfCheckpoint}
 use Rattle.batches.specs.Reading.{AgreesButJob, GivesBatchOrMemory, batch_at}
 use Rattle.batches.specs.declared.error.BatchError.{BatchError}
@@ -157,6 +158,37 @@ over_turns j p h c v o w (Err unmerged.Memory) t said m says at state k l = IfOk
 over_turns j p h c v o w (Err unmerged.OtherJob) t said m says at state k l = absurd (never_unmerged j p h c v o w unmerged.OtherJob m (λ e. absurd (cc)) k l)
 over_turns j p h c v o w (Err unmerged.NotMine) t said m says at state k l = absurd (never_unmerged j p h c v o w unmerged.NotMine m (λ e. absurd (cc)) k l)
 
+-- replicas of one part are merged
+one_part : (v o : State) → o.part ≡ v.part → merge_answer v o ≡ fine
+one_part v o same =
+    ap (λ (x : PartValue). merge_of v.part.plan v.part.number x.plan x.number) same
+    ∙ two_tests (same_plan v.part.plan v.part.plan) (v.part.number == v.part.number) (same_plan-self v.part.plan) (eq-eqb v.part.number v.part.number refl)
+
+never_apart : (v o w : State) (e : MergeError) → MergesWith o v w (Err e) → e ≢ unmerged.Memory → o.part ≡ v.part → ⊥
+never_apart v o w e m some same =
+    let said : Err e ≡ fine = m.answer (λ is. some (same_error e is)) ∙ one_part v o same in
+    absurd (cc)
+  where
+    same_error : (x : MergeError) → ◌≡◌ {A = Result (Unit {0}) MergeError} (Err x) (Err unmerged.Memory) → x ≡ unmerged.Memory
+    same_error x is = cc
+
+-- what was taken over, and what is said
+pub over_taken : {E : Type 0} (v o w : State) (r : Result (Unit {0}) MergeError) (t : ℕ) (said : Result Reply E) → MergesWith o v w r → OnOk r (w.superstep ≡ max v.superstep o.superstep) →
+    SaysMerged r t said → o.part ≡ v.part → OnOk said (TakesBoth v o w)
+over_taken v o w (Ok u) t said m at says same = subst (λ q. OnOk q (TakesBoth v o w)) (sym says) (record { superstep = at; names = m.names; shown = m.shown })
+over_taken v o w (Err unmerged.Memory) t (Ok x) m at says same = absurd (cc)
+over_taken v o w (Err unmerged.Memory) t (Err y) m at says same = tt
+over_taken v o w (Err unmerged.OtherJob) t said m at says same = absurd (never_apart v o w unmerged.OtherJob m (λ e. absurd (cc)) same)
+over_taken v o w (Err unmerged.NotMine) t said m at says same = absurd (never_apart v o w unmerged.NotMine m (λ e. absurd (cc)) same)
+
+pub over_answer : {E : Type 0} (v o w : State) (r : Result (Unit {0}) MergeError) (t : ℕ) (said : Result Reply E) → MergesWith o v w r → SaysMerged r t said → t ≡ w.superstep → o.part ≡ v.part →
+    IfOk said (λ x. x ≡ reply.Answered (answer.Merged w.superstep))
+over_answer v o w (Ok u) t said m says at same = subst (λ q. IfOk q (λ x. x ≡ reply.Answered (answer.Merged w.superstep))) (sym says) (ap (λ (n : ℕ). reply.Answered (answer.Merged n)) at)
+over_answer v o w (Err unmerged.Memory) t (Ok x) m says at same = absurd (cc)
+over_answer v o w (Err unmerged.Memory) t (Err y) m says at same = tt
+over_answer v o w (Err unmerged.OtherJob) t said m says at same = absurd (never_apart v o w unmerged.OtherJob m (λ e. absurd (cc)) same)
+over_answer v o w (Err unmerged.NotMine) t said m says at same = absurd (never_apart v o w unmerged.NotMine m (λ e. absurd (cc)) same)
+
 pub over_part : {E : Type 0} (r : Result (Unit {0}) MergeError) (t : ℕ) (said : Result Reply E) (e : KeepError) → SaysMerged r t said → said ≢ Ok (reply.NoCheckpoint e)
 over_part (Ok u) t said e says is = absurd (cc)
 over_part (Err unmerged.Memory) t (Ok x) e says is = absurd (cc)
@@ -246,6 +278,15 @@ says_checkpoint part bytes (Err y) is whole = tt
 pub never_answered : {E : Type 0} (e : KeepError) (r : Result Reply E) (P : Reply → Type 0) → IfOk r (λ x. x ≡ reply.NoCheckpoint e) → IfOk r (λ x. IsAnswered x → P x)
 never_answered e (Ok x) P is = λ answered. absurd (subst IsAnswered is answered)
 never_answered e (Err y) P is = tt
+
+-- where something is so of each answer, it is so of an answer that is given
+pub answered_if : {E : Type 0} (r : Result Reply E) (P : Reply → Type 0) → IfOk r P → IfOk r (λ x. IsAnswered x → P x)
+answered_if (Ok x) P is = λ answered. is
+answered_if (Err y) P is = tt
+
+pub answered_on : {E : Type 0} (r : Result Reply E) (P : Type 0) → OnOk r P → IfOk r (λ x. IsAnswered x → P)
+answered_on (Ok x) P is = λ answered. is
+answered_on (Err y) P is = tt
 
 -- ---- what is read of bytes
 pub form_told : {R : Type 0} (remaining : R → Option (List ℕ)) (failed : R → ℕ) (part : PartValue) (most : ℕ) (old new : R) (bytes : List ℕ) (r : Result State KeepError) → remaining old ≡ Some bytes →

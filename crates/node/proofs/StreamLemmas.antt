@@ -1,5 +1,5 @@
 -- What is read of a line and of a body.
-use Rattle.std.proofs.Common.{◌≡◌, ◌≢◌, ◌+◌, ◌-◌, ◌≤◌, ℕ, List, [], ◌∷◌, ◌++◌, length, take, arith, length-append}
+use Rattle.std.proofs.Common.{◌≡◌, ◌≢◌, ◌+◌, ◌-◌, ◌≤◌, ℕ, List, [], ◌∷◌, ◌++◌, length, take, ap, arith, length-append}
 use Rattle.std.specs.Prelude.{Option}
 use Rattle.std.specs.Io.KnownBytes.{Consumes}
 use Rattle.std.proofs.KnownBytes.{Consumes-nil, Consumes-trans}
@@ -57,10 +57,12 @@ pub some_bytes : (line : List ℕ) (byte : ℕ) (more : List ℕ) → line ++ by
 some_bytes [] byte more is = absurd (cc)
 some_bytes (c ∷ line) byte more is = absurd (cc)
 
-pub byte_read : (a b c : Option (List ℕ)) (line : List ℕ) (byte : ℕ) → Consumes a b line → Consumes b c (byte ∷ []) → HasNoEnd line → byte ≢ 10 → ReadsInLine a c
-byte_read a b c line byte some next none other = record {
+-- the first byte of a line was read
+pub byte_read : (a b c : Option (List ℕ)) (line : List ℕ) (byte : ℕ) → line ≡ [] → Consumes a b line → Consumes b c (byte ∷ []) → HasNoEnd line → byte ≢ 10 → ReadsInLine a c
+byte_read a b c line byte empty some next none other = record {
   bytes = line ++ byte ∷ [];
   some = some_bytes line byte [];
+  first = omega (arith, length-append line (byte ∷ []), ap length empty);
   consumed = Consumes-trans a b c line (byte ∷ []) some next;
   one_line = All-push (λ (x : ℕ). x ≢ 10) line byte none other;
 }

@@ -76,7 +76,16 @@ pub record HasNoCount (s : Settings) (counted : Bool) (left : Option (List ℕ))
   pub edges : SaysNetwork s left mid all
   pub refused : IsUncounted s mid all e
 
+-- so many bytes of a list were read, and more of it are there
+abbrev pub GoesBeyond : ℕ → Option (List ℕ) → Type 0
+GoesBeyond n left = IfSome left (λ text. n < length (before_mark text))
+
 -- ---- the plan
+-- there is no plan for these numbers over a graph, for this fault
+abbrev pub IsUnplanned : Result PlanValue PlanError → JobInputError → Type 0
+IsUnplanned asked (fault.Plan e) = asked ≡ Err e
+IsUnplanned asked e = ⊥
+
 -- there is no such plan over the network of both
 pub record HasNoPlan (s : Settings) (counted : Bool) (left left' : Option (List ℕ))
     (e : PlanError) : Type 0 where
@@ -102,10 +111,10 @@ IsNoJob s counted left left' fault.Memory = ⊤
 IsNoJob s counted left left' fault.Read = ⊤
 
 -- ---- a node of the job
--- it has no partition p; of want of memory nothing is said
+-- it has no partition p; memory is refused only where it has one
 abbrev pub IsNoStart : PlanValue → ℕ → JobInputError → Type 0
 IsNoStart plan p fault.Part = plan.parts ≤ p
-IsNoStart plan p fault.Memory = ⊤
+IsNoStart plan p fault.Memory = p < plan.parts
 IsNoStart plan p e = ⊥
 
 -- the job of the input was read, and it has no partition p

@@ -1,5 +1,5 @@
 -- Why no report is gathered, or not all of it.
-use Rattle.std.specs.Prelude.{◌≡◌, ◌≢◌, ⊤, ◌⊎◌, ℕ, ◌<◌, ◌≤◌, Bool, false, List, [], ◌∷◌, ◌++◌, length, if◌then◌else◌, codes, Option, None, Some}
+use Rattle.std.specs.Prelude.{◌≡◌, ◌≢◌, ⊤, ◌⊎◌, ℕ, ◌<◌, ◌≤◌, Bool, false, true, List, [], ◌∷◌, ◌++◌, length, if◌then◌else◌, codes, Option, None, Some}
 use Rattle.std.specs.Io.KnownBytes.{Consumes, IsAtEnd, Keeps}
 use Rattle.std.specs.Str.{bytes_eq}
 use Rattle.ball_model.specs.Input.{Network}
@@ -67,6 +67,12 @@ pub record EndsWithin (left left' : Option (List ℕ)) : Type 0 where
   pub consumed : Consumes left left' front
   pub end : IsAtEnd left'
 
+-- a line and as many bytes as it announces, which are no more than any checkpoint of the part has
+pub record IsPartText (part : PartValue) (front : List ℕ) : Type 0 where
+  pub body : List ℕ
+  pub few : length body ≤ most_checkpoint_bytes part part.plan.limit
+  pub front_is : front ≡ part_text body
+
 -- what was announced was read, and is no checkpoint of the part
 pub record ReadsNoCheckpoint (part : PartValue) (left left' : Option (List ℕ))
     (e : KeepError) : Type 0 where
@@ -79,7 +85,14 @@ abbrev pub told_kept : ℕ → KeepError → GatherError
 told_kept p unkept.Memory = fault.Memory
 told_kept p e = fault.Checkpoint p e
 
--- the checkpoint of the part was not read, for this fault; of want of memory and a failed read nothing is said
+-- nothing was read, or the first byte of a line, or all of what a line announces, which is no more than a checkpoint of
+-- the part has
+pub record LacksPartRoom (part : PartValue) (left left' : Option (List ℕ)) : Type 0 where
+  pub front : List ℕ
+  pub within : (front ≡ []) ⊎ ((HasNoEnd front × (length front ≡ 1)) ⊎ IsPartText part front)
+  pub consumed : Consumes left left' front
+
+-- the checkpoint of the part was not read, for this fault; of a failed read nothing is said
 abbrev pub IsNoReplica : PartValue → Option (List ℕ) → Option (List ℕ) → GatherError → Type 0
 IsNoReplica part left left' (fault.Missing q) = (q ≡ part.number) × IsMissing left left'
 IsNoReplica part left left' (fault.Line q) = (q ≡ part.number) × NoPartLine left left'
@@ -87,7 +100,7 @@ IsNoReplica part left left' (fault.Length q) = (q ≡ part.number) × IsTooLong 
 IsNoReplica part left left' (fault.Cut q) = (q ≡ part.number) × EndsWithin left left'
 IsNoReplica part left left' (fault.Checkpoint q e) =
     (q ≡ part.number) × ReadsNoCheckpoint part left left' e
-IsNoReplica part left left' fault.Memory = ⊤
+IsNoReplica part left left' fault.Memory = LacksPartRoom part left left'
 IsNoReplica part left left' fault.Read = ⊤
 IsNoReplica part left left' e = ⊥
 
@@ -117,7 +130,18 @@ pub record AreUnready (j : Job) (left left' : Option (List ℕ)) : Type 0 where
   pub end : IsMissing mid left'
   pub unready : are_ready replicas ≡ false
 
--- there is no report of the checkpoints of a job, for this fault
+-- all were read, nothing follows, and they are ready to be reported
+pub record AreReady (j : Job) (left left' : Option (List ℕ)) : Type 0 where
+  pub replicas : List State
+  pub before : ReadsAll j j.plan.parts left left' replicas
+  pub end : IsAtEnd left'
+  pub ready : are_ready replicas ≡ true
+
+-- memory was refused before the checkpoint of some partition, or where all of it was there, or for the report
+abbrev pub LacksReportRoom : Job → Option (List ℕ) → Option (List ℕ) → Type 0
+LacksReportRoom j left left' = StopsAtPart j left left' fault.Memory ⊎ AreReady j left left'
+
+-- there is no report of the checkpoints of a job, for this fault; of failed calls nothing is said
 abbrev pub IsNoReport : Job → Option (List ℕ) → Option (List ℕ) → GatherError → Type 0
 IsNoReport j left left' (fault.Job e) = ⊥
 IsNoReport j left left' (fault.Missing p) = StopsAtPart j left left' (fault.Missing p)
@@ -127,7 +151,7 @@ IsNoReport j left left' (fault.Cut p) = StopsAtPart j left left' (fault.Cut p)
 IsNoReport j left left' (fault.Checkpoint p e) = StopsAtPart j left left' (fault.Checkpoint p e)
 IsNoReport j left left' fault.Trailing = BytesFollow j left left'
 IsNoReport j left left' fault.NotReady = AreUnready j left left'
-IsNoReport j left left' fault.Memory = ⊤
+IsNoReport j left left' fault.Memory = LacksReportRoom j left left'
 IsNoReport j left left' fault.Read = ⊤
 IsNoReport j left left' fault.Write = ⊤
 

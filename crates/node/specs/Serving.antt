@@ -132,11 +132,11 @@ pub record IsRequestText (part : PartValue) (bytes : List ℕ) : Type 0 where
   pub is : IsRequest part request
   pub bytes_are : bytes ≡ request_bytes request
 
--- some bytes of a line were read, or a request that is all there
+-- some bytes of a line were read, and no more than the first; or a request that is all there
 pub record LacksRoom (part : PartValue) (left left' : Option (List ℕ)) : Type 0 where
   pub front : List ℕ
   pub some : front ≢ []
-  pub within : HasNoEnd front ⊎ IsRequestText part front
+  pub within : (HasNoEnd front × (length front ≡ 1)) ⊎ IsRequestText part front
   pub consumed : Consumes left left' front
 
 -- the request of that number cannot be read for what it says, or numbers end before it; or memory is refused within its

@@ -8,10 +8,11 @@ use Rattle.ball_model.specs.Streams.{Rises}
 abbrev pub HasNoEnd : List ℕ → Type 0
 HasNoEnd bytes = All (λ b. b ≢ 10) bytes
 
--- some bytes of a line were read
+-- some bytes of a line were read, and no more than the first
 pub record ReadsInLine (old new : Option (List ℕ)) : Type 0 where
   pub bytes : List ℕ
   pub some : bytes ≢ []
+  pub first : length bytes ≡ 1
   pub consumed : Consumes old new bytes
   pub one_line : HasNoEnd bytes
 

@@ -1,5 +1,5 @@
 -- What a node says to a command, and how it is told.
-use Rattle.std.specs.Prelude.{◌≡◌, ℕ, List, [], ◌∷◌, codes, decimal, Option, Result, Ok, Err, IsErr}
+use Rattle.std.specs.Prelude.{◌≡◌, ℕ, List, [], ◌∷◌, codes, decimal, max, Option, Result, Ok, Err, IsErr}
 use Rattle.std.specs.Io.KnownBytes.{Appends}
 use Rattle.ball_model.specs.declared.names.MergeError.{MergeError}
 use Rattle.ball_model.specs.declared.names.MergeError.TheVariants as unmerged
@@ -7,7 +7,7 @@ use Rattle.batches.specs.declared.error.BatchError.{BatchError}
 use Rattle.batches.specs.declared.error.BatchError.TheVariants as no_batch
 use Rattle.checkpoint.specs.declared.error.KeepError.{KeepError}
 use Rattle.checkpoint.specs.declared.error.KeepError.TheVariants as no_checkpoint
-use Rattle.checkpoint.specs.Reading.{greatest_batch, most_checkpoint_bytes}
+use Rattle.checkpoint.specs.Reading.{IsReplicaSpelling, greatest_batch, most_checkpoint_bytes}
 use Rattle.ball_model.specs.declared.world.Answer.{Answer}
 use Rattle.ball_model.specs.declared.world.Answer.TheVariants as answer
 use Rattle.ball_model.specs.Batches.{BatchValue}
@@ -15,9 +15,11 @@ use Rattle.ball_model.specs.Content.{is_new}
 use Rattle.ball_model.specs.Held.{HasHolding, IsHeldBy}
 use Rattle.ball_model.specs.Job.{Job, PartValue}
 use Rattle.ball_model.specs.Join.{Holding}
-use Rattle.ball_model.specs.State.{SameShown, State}
+use Rattle.ball_model.specs.State.{SameShown, State, further}
 use Rattle.ball_model.specs.WorldText.{number_line, taken_line, unclosed_line, unmerged_line, untaken_line, words_line}
 use Rattle.replica.specs.Change.{HoldsAfter, take_answer}
+use Rattle.replica.specs.Merged.{HoldsOfBoth, ShowsAs}
+use Rattle.replica.specs.Saved.{IsKeepable}
 use Rattle.world.specs.Shows.{Has}
 use Rattle.node.specs.declared.command.Command.{Command}
 use Rattle.node.specs.declared.command.Command.TheVariants as command
@@ -59,6 +61,21 @@ pub record AppendsOf (v : State) (text_of : Job → Holding → List ℕ)
 pub record IsBrought (b : BatchValue) (v w : State) : Type 0 where
   pub shown : SameShown w v
   pub names : HoldsAfter (is_new (take_answer v b)) b.name v w
+
+-- a replica v took over what a replica o has, and is w: it is at the further superstep, shows what the further one shows,
+-- and holds what either holds of that superstep and later ones
+pub record TakesBoth (v o w : State) : Type 0 where
+  pub superstep : w.superstep ≡ max v.superstep o.superstep
+  pub names : HoldsOfBoth v o w
+  pub shown : ShowsAs w (further v o)
+
+-- it took over what a replica of its part has, of which the bytes are the spelling: whether that stands for a job or not
+pub record TakesSpelled (bytes : List ℕ) (v w : State) : Type 0 where
+  pub other : State
+  pub keepable : IsKeepable other
+  pub part_is : other.part ≡ v.part
+  pub spells : IsReplicaSpelling other bytes
+  pub takes : TakesBoth v other w
 
 -- such a replica was made, or memory was refused
 abbrev pub GivesOrWants : (State → Type 0) → Result State KeepError → Type 0

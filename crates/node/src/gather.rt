@@ -1,7 +1,7 @@
 //! The report of the checkpoints of all partitions.
 
 ghost use Rattle.std.specs.Prelude.{◌≡◌, ◌≢◌, ℕ, ◌+◌, ◌<◌, ◌≤◌, length, List, ◌++◌, ◌∷◌, []};
-ghost use Rattle.std.specs.Prelude.{Option, Some, Err, IfErr, IfOk, OnErr, OnOk};
+ghost use Rattle.std.specs.Prelude.{Option, Some, Err, IfErr, IfOk, OnErr, OnOk, false, true};
 ghost use Rattle.std.specs.Arc.{arc_value};
 ghost use Rattle.std.specs.Io.KnownBytes.{Consumes, IsAtEnd, Keeps};
 ghost use Rattle.ball_model.specs.Job.{Job, IsJob, job_of, part_of};
@@ -9,12 +9,13 @@ ghost use Rattle.ball_model.specs.State.{State};
 ghost use Rattle.ball_model.specs.Streams.{Rises};
 ghost use Rattle.checkpoint.specs.Reading.{most_checkpoint_bytes};
 ghost use Rattle.edgelist.specs.Feeding.{feeds_of};
+ghost use Rattle.report.specs.Ready.{are_ready};
 ghost use Rattle.node.specs.Gathering.{Gathers, GathersJob, ReadsAll, ReadsCheckpoint, part_line};
 ghost use Rattle.node.specs.Gathering.{part_text};
 ghost use Rattle.node.specs.NoReport.{HasNoReport, IsNoReplica, IsNoReport, WritesFront};
 ghost use Rattle.node.specs.NoReport.{WritesFrontOfJob, IsUnwritten, part_length, told_kept};
 ghost use Rattle.node.specs.Job.{job_settings_of};
-ghost use Rattle.node.specs.Stream.{FailsAs};
+ghost use Rattle.node.specs.Stream.{FailsAs, ReadsInLine};
 ghost use Rattle.node.specs.declared.error.JobInputError.TheVariants as no_job;
 
 use crate::command::size;
@@ -61,6 +62,9 @@ fn read_length<R: CountedRead>(
         Consumes (R.remaining reader.old) (R.remaining reader.new) (part_line n)) }
     ensures refused { IfErr result
         (IsNoReplica part.now (R.remaining reader.old) (R.remaining reader.new)) }
+    // Memory is refused only at the first byte of a line.
+    ensures memory { result ≡ Err GatherError.Memory →
+        ReadsInLine (R.remaining reader.old) (R.remaining reader.new) }
     ensures failed { FailsAs R.failed_calls reader.old reader.new result (Err GatherError.Read) }
 {
     let p = part.partition();
@@ -209,6 +213,7 @@ fn read_end<R: CountedRead>(reader: &mut R) -> Result<(), GatherError>
         ReadsAll j j.plan.parts left (R.remaining reader.old) replicas →
         IfErr result (IsNoReport j left (R.remaining reader.new)) }
     ensures unwritten { result ≢ Err GatherError.Write }
+    ensures memory { result ≢ Err GatherError.Memory }
     ensures failed { FailsAs R.failed_calls reader.old reader.new result (Err GatherError.Read) }
 {
     match next_of(reader) {
@@ -243,6 +248,19 @@ fn read_replicas<R: CountedRead, V: Watch>(
         add_replica(alloc, graph, plan, p, &feeds, watch, reader, replicas)?;
     }
     read_end(reader)
+}
+
+// Whether replicas are of the end of one run. It takes no memory.
+fn need_end(replicas: &[Replica]) -> Result<(), GatherError>
+    ensures ok { OnOk result (are_ready replicas.now ≡ true) }
+    ensures none { IfErr result (λ e.
+        (are_ready replicas.now ≡ false) × (e ≡ GatherError.NotReady)) }
+{
+    if report_ready(replicas) {
+        Ok(())
+    } else {
+        Err(GatherError::NotReady)
+    }
 }
 
 /// Reads the checkpoints of all partitions of a job at the end of its run, and writes their report.
@@ -285,9 +303,7 @@ pub fn gather_parts<T: AllocGlobal + Threads + Sync, R: CountedRead, W: CountedW
 {
     let mut replicas = Vec::new(rt.alloc());
     read_replicas(rt.alloc(), graph, plan, watch, reader, &mut replicas)?;
-    if !report_ready(&replicas) {
-        return Err(GatherError::NotReady);
-    }
+    need_end(&replicas)?;
     write_report(rt, writer, graph, &replicas)?;
     Ok(())
 }

@@ -1,12 +1,14 @@
 //! Lines and bodies of an input.
 
-ghost use Rattle.std.specs.Prelude.{◌≡◌, ◌≢◌, ◌<◌, ◌≤◌, ◌++◌, ◌∷◌, [], length};
+ghost use Rattle.std.specs.Prelude.{◌≡◌, ◌≢◌, ◌<◌, ◌≤◌, ◌⊎◌, ◌++◌, ◌∷◌, [], length, OnErr, OnOk};
+ghost use Rattle.std.specs.Prelude.{vec_capacity};
 ghost use Rattle.std.specs.Io.KnownBytes.{Consumes, IsAtEnd};
 ghost use Rattle.ball_model.specs.Streams.{Rises};
 ghost use Rattle.node.specs.Stream.{CutsBody, FailsAs, HasNoEnd, ReadsBody, ReadsInLine};
 
 use crate::section::{NextByte, next_of};
 use ball_model::{CountedRead, Filled, fill};
+use std::alloc::AllocError;
 
 // The most bytes of a line: no command is as long.
 const MOST_LINE: usize = 64;
@@ -31,7 +33,22 @@ pub enum Line {
     Failed,
 }
 
-/// Reads the bytes before the next LF into `line`, which is empty, and the LF.
+// Adds a byte to a line. At the first one room is made for all that a line may have.
+fn put_byte(line: &mut Vec<u8>, byte: u8) -> Result<(), AllocError>
+    requires short { length line.old.items < MOST_LINE }
+    requires room { (line.old.items ≡ []) ⊎ (MOST_LINE ≤ vec_capacity line.old) }
+    ensures ok { OnOk result (line.new.items ≡ line.old.items ++ byte ∷ []) }
+    ensures room { OnOk result (MOST_LINE ≤ vec_capacity line.new) }
+    ensures first { OnErr result (line.old.items ≡ []) }
+{
+    if line.is_empty() {
+        line.reserve(MOST_LINE)?;
+    }
+    line.push_reserved(byte);
+    Ok(())
+}
+
+/// Reads the bytes before the next LF into `line`, which is empty, and the LF. Memory may be refused at the first byte.
 pub fn read_line<R: CountedRead>(reader: &mut R, line: &mut Vec<u8>) -> Line
     requires { line.old.items ≡ [] }
     ensures whole { result ≡ Line.Whole → Consumes (R.remaining reader.old)
@@ -61,7 +78,7 @@ pub fn read_line<R: CountedRead>(reader: &mut R, line: &mut Vec<u8>) -> Line
         match next_of(reader) {
             NextByte::Byte(b'\n') => return Line::Whole,
             NextByte::Byte(byte) => {
-                let Ok(()) = line.push(byte) else {
+                let Ok(()) = put_byte(line, byte) else {
                     return Line::Memory;
                 };
             }

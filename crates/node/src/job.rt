@@ -1,7 +1,7 @@
 //! A job, read of an input up to a mark.
 
 ghost use Rattle.std.specs.Prelude.{◌≡◌, ◌≢◌, ◌<◌, ◌≤◌, [], Err, IfErr, IfOk, IsErr, OnOk, length};
-ghost use Rattle.std.specs.Prelude.{Ok, true};
+ghost use Rattle.std.specs.Prelude.{Ok, false, true};
 ghost use Rattle.std.specs.Arc.{arc_value};
 ghost use Rattle.ball_model.specs.Input.{Limits};
 ghost use Rattle.ball_model.specs.Job.{IsJob, job_of, part_of};
@@ -12,7 +12,8 @@ ghost use Rattle.edgelist.specs.Planning.{signed};
 ghost use Rattle.edgelist.specs.Reading.{meaning_under};
 ghost use Rattle.node.specs.Job.{CountsSome, GivesEdges, HasRecords, IsJobRead, SaysNetwork};
 ghost use Rattle.node.specs.Job.{job_numbers_of, job_settings_of};
-ghost use Rattle.node.specs.NoJob.{IsNoJob, IsNoNetwork, IsUncounted, IsUnlisted};
+ghost use Rattle.node.specs.NoJob.{GoesBeyond, IsNoJob, IsNoNetwork, IsUncounted, IsUnlisted};
+ghost use Rattle.node.specs.NoJob.{IsUnplanned};
 ghost use Rattle.node.specs.Section.{ReadsSection};
 ghost use Rattle.node.specs.Stream.{FailsAs};
 
@@ -89,6 +90,18 @@ fn give_section<R: CountedRead>(
     Err(JobInputError::EdgesSize)
 }
 
+// A mark is wanted behind an edge list that was read. It takes no memory.
+fn need_mark(marked: bool) -> Result<(), JobInputError>
+    ensures ok { OnOk result (marked ≡ true) }
+    ensures none { IfErr result (λ e. (marked ≡ false) × (e ≡ JobInputError.NoMark)) }
+{
+    if marked {
+        Ok(())
+    } else {
+        Err(JobInputError::NoMark)
+    }
+}
+
 // The graph that a section says, which ends at a mark, and how many records it has.
 fn read_edge_section<R: CountedRead>(
     alloc: Global,
@@ -107,11 +120,13 @@ fn read_edge_section<R: CountedRead>(
     let mut edges = reader_for(alloc, state, options)?;
     let marked = give_section(alloc, reader, &mut edges)?;
     let read = edges.finish(alloc)?;
-    if !marked {
-        drop(read);
-        return Err(JobInputError::NoMark);
+    match need_mark(marked) {
+        Ok(()) => Ok(read),
+        Err(fault) => {
+            drop(read);
+            Err(fault)
+        }
     }
-    Ok(read)
 }
 
 // Reads the bytes of a section, which ends at a mark, into `list`, which is empty.
@@ -121,6 +136,10 @@ fn read_list<R: CountedRead>(reader: &mut R, list: &mut Vec<u8>) -> Result<(), J
         (R.remaining reader.old) (R.remaining reader.new)) }
     ensures few { OnOk result (length list.new.items ≤ MOST_BYTES) }
     ensures refused { IfErr result (IsUnlisted (R.remaining reader.old)) }
+    // Memory is refused only where more of the list follows, and it is not too long so far.
+    ensures memory { result ≡ Err JobInputError.Memory →
+        GoesBeyond (length list.new.items) (R.remaining reader.old) }
+    ensures room { result ≡ Err JobInputError.Memory → length list.new.items ≤ MOST_BYTES }
     ensures failed { FailsAs R.failed_calls reader.old reader.new result (Err JobInputError.Read) }
 {
     let mut cut = Cut::start();
@@ -192,10 +211,13 @@ fn signed(graph: &Graph, bare: Plan) -> Plan
     bare.with_job(job)
 }
 
-// The plan over a graph, or the first fault of the options.
-fn plan_for(graph: &Graph, options: &JobOptions) -> Result<Plan, PlanError>
-    ensures value { result ≡ plan_asked (job_numbers_of options.now) graph.now.graph }
+// The plan over a graph, or the first fault of the options. It takes no memory.
+fn plan_for(graph: &Graph, options: &JobOptions) -> Result<Plan, JobInputError>
+    ensures value { IfOk result (λ plan.
+        Ok plan ≡ plan_asked (job_numbers_of options.now) graph.now.graph) }
     ensures job { IfOk result (λ plan. IsJob (job_of graph.now.graph plan)) }
+    ensures refused { IfErr result
+        (IsUnplanned (plan_asked (job_numbers_of options.now) graph.now.graph)) }
 {
     let bare = bare_plan_for(graph, options)?;
     Ok(signed(graph, bare))

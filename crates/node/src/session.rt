@@ -21,7 +21,8 @@ ghost use Rattle.world.specs.Shows.{Has};
 ghost use Rattle.node.specs.NodeText.{IsDelivered, IsGivenBack};
 ghost use Rattle.node.specs.Refusals.{IsAnswered, IsNodeCheckpoint, IsNoCheckpoint, SaysOfBatch};
 ghost use Rattle.node.specs.Refusals.{SaysOfCheckpoint};
-ghost use Rattle.node.specs.Turns.{GivesOrWants, Holds, IsBrought, SaysMerged, TurnsTo};
+ghost use Rattle.node.specs.Turns.{GivesOrWants, Holds, IsBrought, SaysMerged, TakesBoth};
+ghost use Rattle.node.specs.Turns.{TakesSpelled, TurnsTo};
 ghost use Rattle.node.specs.declared.session.Reply.TheVariants as reply;
 
 use ball_model::world::Answer;
@@ -210,6 +211,7 @@ impl Session {
         ensures part { IfOk result (λ r. r.part ≡ self.now.part) }
         ensures back { (j : Job) (p : ℕ) (h d : Holding) → Holds j p h self.now →
             IsGivenBack j p bytes.now d → GivesOrWants (Holds j p d) result }
+        ensures keepable { IfOk result IsKeepable }
         ensures spells { IfOk result (λ r. IsReplicaSpelling r bytes.now) }
         ensures whole { OnOk result (IsNodeCheckpoint self.now.part bytes.now) }
         ensures named { IfErr result (λ e. e ≢ KeepError.Memory →
@@ -245,6 +247,11 @@ impl Session {
         ensures named { IfOk result (SaysOfCheckpoint self.old.part bytes.now) }
         ensures unread { (e : KeepError) → result ≡ Ok (reply.NoCheckpoint e) →
             self.new ≡ self.old }
+        // Whichever checkpoint of the part they are: what it spells is taken over, and the superstep is told.
+        ensures taken { IfOk result (λ r. IsAnswered r →
+            TakesSpelled bytes.now self.old self.new) }
+        ensures answer { IfOk result (λ r. IsAnswered r →
+            r ≡ reply.Answered (answer.Merged self.new.superstep)) }
         // Memory is refused only after the checks of the fixed fields.
         ensures front { OnErr result (HasHead self.old.part bytes.now) }
         ensures refused { OnErr result (self.new ≡ self.old) }
@@ -264,6 +271,10 @@ impl Session {
         ensures part { self.new.part ≡ self.old.part }
         ensures kind { (e : KeepError) → result ≢ Ok (reply.NoCheckpoint e) }
         ensures said { IfOk result IsAnswered }
+        ensures taken { other.part ≡ self.old.part →
+            OnOk result (TakesBoth self.old other self.new) }
+        ensures answer { other.part ≡ self.old.part →
+            IfOk result (λ r. r ≡ reply.Answered (answer.Merged self.new.superstep)) }
         ensures refused { OnErr result (self.new ≡ self.old) }
     {
         let copy = snapshot_of(alloc, other)?;
@@ -281,6 +292,10 @@ impl Session {
         ensures part { self.new.part ≡ self.old.part }
         ensures kind { (e : KeepError) → result ≢ Ok (reply.NoCheckpoint e) }
         ensures said { IfOk result IsAnswered }
+        ensures taken { copy.now.part ≡ self.old.part →
+            OnOk result (TakesBoth self.old copy.now self.new) }
+        ensures answer { copy.now.part ≡ self.old.part →
+            IfOk result (λ r. r ≡ reply.Answered (answer.Merged self.new.superstep)) }
         ensures refused { OnErr result (self.new ≡ self.old) }
     {
         let merged = self.replica.merge(alloc, copy);

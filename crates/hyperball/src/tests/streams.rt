@@ -73,12 +73,14 @@ static READ: [(Case, Case); 5] = [
     ),
 ];
 
-/// Whether what is read ends so where so many reads go well: all are needed, and the one that finds the end.
+/// Whether what is read ends so where so many reads go well: all are needed, and the one that finds the end. A read that
+/// fails is the last one.
 fn ends_after<H: Host>(rt: &H, whole: &Case, cut: &Case, reads: u64) -> bool {
     let is_read = reads > length_of(whole.1) as u64;
     let case = if is_read { whole } else { cut };
     let end = end_in(rt, case, &reading(reads), &[]);
-    is_told(case, &end) && end.output.is_front() && (!is_read || end.output.has_all())
+    let is_all = end.output.is_front() && (!is_read || end.output.has_all());
+    is_told(case, &end) && is_all && end.failures == u64::from(!is_read)
 }
 
 /// Each read is needed, and its failure is told.
@@ -122,16 +124,19 @@ row 1 11.115354 0.000000 0.000000 00000000000001000000000000000000
     words::VERSION,
 ];
 
-/// Whether so much room is filled, and it is told that the output cannot be written where that is too little.
+/// Whether so much room is filled, and it is told that the output cannot be written where that is too little. A write
+/// that fails is the last one.
 fn fills<H: Host>(rt: &H, case: &Case, room: usize) -> bool {
-    let (status, fault) = if room < length_of(case.3) {
+    let fails = room < length_of(case.3);
+    let (status, fault) = if fails {
         (1, UNWRITTEN)
     } else {
         (case.2, case.4)
     };
     let wanted = (case.0, case.1, status, case.3, fault);
     let end = end_in(rt, &wanted, &writing(room), &[]);
-    is_told(&wanted, &end) && end.output.is_front() && end.output.taken() == room
+    let is_full = end.output.is_front() && end.output.taken() == room;
+    is_told(&wanted, &end) && is_full && end.failures == u64::from(fails)
 }
 
 /// So it is with all room up to that which a case needs.

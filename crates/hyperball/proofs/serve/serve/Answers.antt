@@ -1,7 +1,10 @@
-use Rattle.std.proofs.Common.{ap, inl, inr}
+use Rattle.std.proofs.Common.{ap, inl, inr, refl, subst}
 use Rattle.std.specs.Prelude.{Err, Ok}
 use Rattle.hyperball.proofs.ReplayLemmas.{some_begun}
 use Rattle.hyperball.proofs.TellingLemmas.{tells_none}
+use Rattle.hyperball.specs.Words.{SaysOrders}
+use Rattle.hyperball.proofs.NodeLemmas.{gather_no_run, node_no_run}
+use Rattle.hyperball.proofs.ReplayLemmas.{is_run, not_run}
 use Rattle.hyperball.proofs.WishLemmas.{each_wish}
 use Rattle.hyperball.proofs.serve.serve.Goals as goal
 
@@ -122,3 +125,39 @@ returns-in-Ok-clause-version g c = λ has. c.serve_wish.ensures.status
 
 pub returns-in-Ok-clause-some : goal.returns-in-Ok-clause-some
 returns-in-Ok-clause-some g c = λ kinds has some zero. absurd (some (c.in-Ok.ensures.faults kinds has))
+
+pub returns-in-Err-clause-misspelt : goal.returns-in-Err-clause-misspelt
+returns-in-Err-clause-misspelt g c = λ two has. c.in-Err.ensures.misspelt (ap Err (c.tell_words.ensures.two two (c.in-Err.ensures.faults _ has)))
+
+pub returns-in-Ok-clause-run_fault : goal.returns-in-Ok-clause-run_fault
+returns-in-Ok-clause-run_fault g c = λ w is one. each_wish c.in-Ok.wish
+    (λ said at. inr (record {
+      said = said;
+      words_are = is_run _ said w at (c.in-Ok.ensures.run w is);
+      orders = subst (SaysOrders _) at c.in-Ok.ensures.orders;
+      fails = c.serve_wish.ensures.run_fault said at one;
+    }))
+    (λ v at. absurd (not_run _ v w at (c.in-Ok.ensures.run w is)))
+    (λ v at. absurd (node_no_run _ v w at (c.in-Ok.ensures.run w is)))
+    (λ v at. absurd (gather_no_run _ v w at (c.in-Ok.ensures.run w is)))
+
+pub returns-in-Ok-clause-replay_fault : goal.returns-in-Ok-clause-replay_fault
+returns-in-Ok-clause-replay_fault g c = λ w is one. inr (c.serve_wish.ensures.replay_fault w (c.in-Ok.ensures.replay w is) one)
+
+pub returns-in-Ok-clause-node_fault : goal.returns-in-Ok-clause-node_fault
+returns-in-Ok-clause-node_fault g c = λ w is one. inr (c.serve_wish.ensures.node_fault w (c.in-Ok.ensures.node w is) one)
+
+pub returns-in-Ok-clause-gather_fault : goal.returns-in-Ok-clause-gather_fault
+returns-in-Ok-clause-gather_fault g c = λ w is one. inr (c.serve_wish.ensures.gather_fault w (c.in-Ok.ensures.gather w is) one)
+
+pub returns-in-Err-clause-run_fault : goal.returns-in-Err-clause-run_fault
+returns-in-Err-clause-run_fault g c = λ w is one. inl (record { unread = refl; kept = c.tell_words.ensures.kept one })
+
+pub returns-in-Err-clause-replay_fault : goal.returns-in-Err-clause-replay_fault
+returns-in-Err-clause-replay_fault g c = λ w is one. inl (record { unread = refl; kept = c.tell_words.ensures.kept one })
+
+pub returns-in-Err-clause-node_fault : goal.returns-in-Err-clause-node_fault
+returns-in-Err-clause-node_fault g c = λ w is one. inl (record { unread = refl; kept = c.tell_words.ensures.kept one })
+
+pub returns-in-Err-clause-gather_fault : goal.returns-in-Err-clause-gather_fault
+returns-in-Err-clause-gather_fault g c = λ w is one. inl (record { unread = refl; kept = c.tell_words.ensures.kept one })

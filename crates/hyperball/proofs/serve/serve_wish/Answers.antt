@@ -4,13 +4,15 @@ use Rattle.node.specs.Gathering.{GathersJob}
 use Rattle.node.specs.Job.{job_settings_of}
 use Rattle.node.specs.NoReport.{WritesFrontOfJob}
 use Rattle.node.specs.Serving.{ServesNode}
+use Rattle.hyperball.specs.Faults.{FailsGathering, FailsNode, FailsReplaying, FailsRun}
 use Rattle.hyperball.specs.Replaying.{BeginsToServe, ServesReplay}
 use Rattle.hyperball.specs.Words.{Reports}
 use Rattle.hyperball.specs.declared.node_words.GatherWords.{GatherWords}
 use Rattle.hyperball.specs.declared.node_words.NodeWords.{NodeWords}
 use Rattle.hyperball.specs.declared.replay_words.ReplayWords.{ReplayWords}
 use Rattle.hyperball.specs.declared.words.RunWords.{RunWords}
-use Rattle.hyperball.proofs.NodeLemmas.{gather_no_replay, gather_no_run, gather_tells, node_no_gather, node_no_replay, node_no_run, node_tells, replay_no_gather, replay_no_node, run_no_gather, run_no_node, same_gather, same_node}
+use Rattle.hyperball.specs.declared.words.Said.{Said}
+use Rattle.hyperball.proofs.NodeLemmas.{gather_no_replay, gather_no_run, gather_tells, node_no_gather, node_no_replay, node_no_run, node_tells, replay_no_gather, replay_no_node, run_no_gather, run_no_node, same_gather, same_node, same_said}
 use Rattle.hyperball.proofs.ReplayLemmas.{is_replay, is_run, not_replay, not_run, replay_tells, run_tells}
 use Rattle.hyperball.proofs.serve.serve_wish.Goals as goal
 
@@ -30,6 +32,10 @@ returns-in-Run g c = record {
   gather_read = λ w is zero. absurd (run_no_gather _ _ w c.in-Run.is is);
   gather_written = λ w is zero. absurd (run_no_gather _ _ w c.in-Run.is is);
   gather_begun = λ w is one. absurd (run_no_gather _ _ w c.in-Run.is is);
+  run_fault = λ said is one. subst (λ (v : Said). FailsRun v g.R.Read.remaining g.R.CountedRead.failed_calls g.R.CountedRead.sure_calls c.args.reader.now c.run_status.new.reader) (same_said _ _ said c.in-Run.is is) (c.run_status.ensures.fault one);
+  replay_fault = λ w is one. absurd (not_replay _ _ w c.in-Run.is is);
+  node_fault = λ w is one. absurd (run_no_node _ _ w c.in-Run.is is);
+  gather_fault = λ w is one. absurd (run_no_gather _ _ w c.in-Run.is is);
   told = λ zero. record { silent = λ quiet. (c.run_status.ensures.told zero).silent (run_tells _ _ _ c.in-Run.is quiet); told = (c.run_status.ensures.told zero).told };
 }
 
@@ -49,6 +55,10 @@ returns-in-Replay g c = record {
   gather_read = λ w is zero. absurd (replay_no_gather _ _ w c.in-Replay.is is);
   gather_written = λ w is zero. absurd (replay_no_gather _ _ w c.in-Replay.is is);
   gather_begun = λ w is one. absurd (replay_no_gather _ _ w c.in-Replay.is is);
+  run_fault = λ said is one. absurd (not_replay _ said _ is c.in-Replay.is);
+  replay_fault = λ w is one. subst (λ (v : ReplayWords). FailsReplaying v g.R.Read.remaining g.R.CountedRead.failed_calls g.R.CountedRead.sure_calls g.W.Write.contents g.W.CountedWrite.failed_calls c.args.reader.now c.replay_status.new.reader c.args.writer.now c.replay_status.new.writer) (is_replay _ _ w c.in-Replay.is is) (c.replay_status.ensures.fault one);
+  node_fault = λ w is one. absurd (replay_no_node _ _ w c.in-Replay.is is);
+  gather_fault = λ w is one. absurd (replay_no_gather _ _ w c.in-Replay.is is);
   told = λ zero. record { silent = λ quiet. (c.replay_status.ensures.told zero).silent (replay_tells _ _ _ c.in-Replay.is quiet); told = (c.replay_status.ensures.told zero).told };
 }
 
@@ -68,6 +78,10 @@ returns-in-Node g c = record {
   gather_read = λ w is zero. absurd (node_no_gather _ _ w c.in-Node.is is);
   gather_written = λ w is zero. absurd (node_no_gather _ _ w c.in-Node.is is);
   gather_begun = λ w is one. absurd (node_no_gather _ _ w c.in-Node.is is);
+  run_fault = λ said is one. absurd (run_no_node _ said _ is c.in-Node.is);
+  replay_fault = λ w is one. absurd (node_no_replay _ _ w c.in-Node.is is);
+  node_fault = λ w is one. subst (λ (v : NodeWords). FailsNode v g.R.Read.remaining g.R.CountedRead.failed_calls g.W.Write.contents g.W.CountedWrite.failed_calls c.args.reader.now c.node_status.new.reader c.args.writer.now c.node_status.new.writer) (same_node _ _ w c.in-Node.is is) (c.node_status.ensures.fault one);
+  gather_fault = λ w is one. absurd (node_no_gather _ _ w c.in-Node.is is);
   told = λ zero. record { silent = λ quiet. (c.node_status.ensures.told zero).silent (node_tells _ _ _ c.in-Node.is quiet); told = (c.node_status.ensures.told zero).told };
 }
 
@@ -87,5 +101,9 @@ returns-in-Gather g c = record {
   gather_read = λ w is zero. c.gather_status.ensures.read zero;
   gather_written = λ w is zero. c.gather_status.ensures.written zero;
   gather_begun = λ w is one. subst (λ (v : GatherWords). WritesFrontOfJob (job_settings_of v.options) v.options.counted (g.R.Read.remaining c.args.reader.now) (g.R.Read.remaining c.gather_status.new.reader) (g.W.Write.contents c.args.writer.now) (g.W.Write.contents c.gather_status.new.writer)) (same_gather _ _ w c.in-Gather.is is) (c.gather_status.ensures.begun one);
+  run_fault = λ said is one. absurd (run_no_gather _ said _ is c.in-Gather.is);
+  replay_fault = λ w is one. absurd (gather_no_replay _ _ w c.in-Gather.is is);
+  node_fault = λ w is one. absurd (node_no_gather _ w _ is c.in-Gather.is);
+  gather_fault = λ w is one. subst (λ (v : GatherWords). FailsGathering v g.R.Read.remaining g.R.CountedRead.failed_calls g.W.Write.contents g.W.CountedWrite.failed_calls c.args.reader.now c.gather_status.new.reader c.args.writer.now c.gather_status.new.writer) (same_gather _ _ w c.in-Gather.is is) (c.gather_status.ensures.fault one);
   told = λ zero. record { silent = λ quiet. (c.gather_status.ensures.told zero).silent (gather_tells _ _ _ c.in-Gather.is quiet); told = (c.gather_status.ensures.told zero).told };
 }

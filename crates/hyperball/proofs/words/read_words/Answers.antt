@@ -4,7 +4,7 @@ use Rattle.clap.specs.Words.{Row, Text}
 use Rattle.clap.specs.declared.error.kind.ErrorKind.{ErrorKind}
 use Rattle.hyperball.specs.Nodes.{IsGatherOf, IsNodeOf, NamesGather, NamesNode}
 use Rattle.hyperball.specs.Replaying.{IsReplayOf, NamesReplay}
-use Rattle.hyperball.specs.Words.{FailsWith, GivesOrders, GivesProgress, IsRunOf, SaysListed}
+use Rattle.hyperball.specs.Words.{FailsWith, GivesLists, GivesOrders, GivesProgress, IsRunOf, MisspellsLists, SaysListed}
 use Rattle.hyperball.proofs.WishLemmas.{is_gather, is_node, is_replay}
 use Rattle.hyperball.proofs.words.read_words.Goals as goal
 
@@ -62,3 +62,13 @@ pub returns-in-Ok-clause-asks_gather : goal.returns-in-Ok-clause-asks_gather
 returns-in-Ok-clause-asks_gather c = λ w is.
     let read = c.in-Ok.ensures.read in
     record { parsers = read.parsers; take = read.take; named = subst NamesGather read.rows (c.wish_of.ensures.names_gather w is) }
+
+pub returns-in-Ok-clause-misspelt : goal.returns-in-Ok-clause-misspelt
+returns-in-Ok-clause-misspelt c = λ is.
+    let read = c.in-Ok.ensures.read in
+    record { parsers = read.parsers; take = read.take; misspelt = subst MisspellsLists read.rows (c.wish_of.ensures.misspelt is) }
+
+pub returns-in-Ok-clause-memory : goal.returns-in-Ok-clause-memory
+returns-in-Ok-clause-memory c = λ is.
+    let read = c.in-Ok.ensures.read in
+    record { parsers = read.parsers; take = read.take; lists = subst GivesLists read.rows (c.wish_of.ensures.memory is) }

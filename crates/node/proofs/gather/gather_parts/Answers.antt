@@ -4,7 +4,8 @@ use Rattle.std.specs.List.{All}
 use Rattle.ball_model.specs.Job.{Job, job_of}
 use Rattle.ball_model.specs.State.{State}
 use Rattle.report.specs.Ready.{AllStand, are_ready}
-use Rattle.node.proofs.GatherLemmas.{all_vertices_read, gathered, unready}
+use Rattle.node.specs.NoReport.{IsNoReport}
+use Rattle.node.proofs.GatherLemmas.{all_vertices_read, gathered, ready_lacks, unready}
 use Rattle.std.specs.Prelude.{Err}
 use Rattle.std.proofs.lemmas.Result.{err_from_is_err_and}
 use Rattle.node.proofs.GatherLemmas.{gathered_front}
@@ -20,8 +21,7 @@ write_report-requires-clause-graph g c κs within =
 pub returns-clause-ok : goal.returns-clause-ok
 returns-clause-ok g c =
     let j : Job = job_of c.args.graph.now.graph c.args.plan.now in
-    let told : c.report_ready.result ≡ true = search c.if-not-report_ready.false in
-    let ready : are_ready c.read_replicas.new.replicas.items ≡ true = ap are_ready (sym c.deref.ensures.value) ∙ sym c.report_ready.ensures ∙ told in
+    let ready : are_ready c.read_replicas.new.replicas.items ≡ true = ap are_ready (sym c.deref.ensures.value) ∙ c.in_ok-need_end.ensures.ok in
     gathered j c.args.graph.now.labels (g.R.Read.remaining c.args.reader.now) (g.R.Read.remaining c.read_replicas.new.reader)
     (g.W.Write.contents c.args.writer.now) (g.W.Write.contents c.write_report.new.writer) c.read_replicas.new.replicas.items
     c.in_ok-read_replicas.ensures.read ready c.in_ok-read_replicas.ensures.end
@@ -33,19 +33,29 @@ returns-in_err-read_replicas-clause-write g c = λ is.
     let same : p.0 ≡ fault.Write = cc (p.1, is) in
     absurd (c.in_err-read_replicas.ensures.unwritten (ap Err (sym p.2 ∙ same)))
 
-pub returns-then-not-report_ready-clause-refused : goal.returns-then-not-report_ready-clause-refused
-returns-then-not-report_ready-clause-refused g c =
+pub returns-in_err-need_end-clause-refused : goal.returns-in_err-need_end-clause-refused
+returns-in_err-need_end-clause-refused g c =
     let j : Job = job_of c.args.graph.now.graph c.args.plan.now in
-    let told : c.report_ready.result ≡ false = search c.if-not-report_ready.true in
-    unready j (g.R.Read.remaining c.args.reader.now) (g.R.Read.remaining c.read_replicas.new.reader) c.read_replicas.new.replicas.items
-    c.in_ok-read_replicas.ensures.read c.in_ok-read_replicas.ensures.end (ap are_ready (sym c.deref.ensures.value) ∙ sym c.report_ready.ensures ∙ told)
+    let p = err_from_is_err_and c.from_residual-in_err-need_end.result c.from_residual-in_err-need_end.ensures.1 in
+    let said = p.2 ∙ c.in_err-need_end.ensures.none.1 in
+    rw (p.1)
+    (subst (IsNoReport j (g.R.Read.remaining c.args.reader.now) (g.R.Read.remaining c.read_replicas.new.reader)) (sym said)
+    (unready j (g.R.Read.remaining c.args.reader.now) (g.R.Read.remaining c.read_replicas.new.reader) c.read_replicas.new.replicas.items
+    c.in_ok-read_replicas.ensures.read c.in_ok-read_replicas.ensures.end (ap are_ready (sym c.deref.ensures.value) ∙ c.in_err-need_end.ensures.none.0)))
+
+pub returns-in_err-write_report-clause-refused : goal.returns-in_err-write_report-clause-refused
+returns-in_err-write_report-clause-refused g c =
+    let j : Job = job_of c.args.graph.now.graph c.args.plan.now in
+    let p = err_from_is_err_and c.from_residual-in_err-write_report.result c.from_residual-in_err-write_report.ensures.1 in
+    rw (p.1, p.2)
+    (ready_lacks j (g.R.Read.remaining c.args.reader.now) (g.R.Read.remaining c.read_replicas.new.reader) c.read_replicas.new.replicas.items _
+    c.in_ok-read_replicas.ensures.read c.in_ok-read_replicas.ensures.end (ap are_ready (sym c.deref.ensures.value) ∙ c.in_ok-need_end.ensures.ok))
 
 pub returns-in_err-write_report-clause-front : goal.returns-in_err-write_report-clause-front
 returns-in_err-write_report-clause-front g c =
     let j : Job = job_of c.args.graph.now.graph c.args.plan.now in
     let p = err_from_is_err_and c.from_residual-in_err-write_report.result c.from_residual-in_err-write_report.ensures.1 in
-    let told : c.report_ready.result ≡ true = search c.if-not-report_ready.false in
-    let ready : are_ready c.read_replicas.new.replicas.items ≡ true = ap are_ready (sym c.deref.ensures.value) ∙ sym c.report_ready.ensures ∙ told in
+    let ready : are_ready c.read_replicas.new.replicas.items ≡ true = ap are_ready (sym c.deref.ensures.value) ∙ c.in_ok-need_end.ensures.ok in
     rw (p.1)
     (gathered_front j c.args.graph.now.labels (g.R.Read.remaining c.args.reader.now) (g.R.Read.remaining c.read_replicas.new.reader)
     (g.W.Write.contents c.args.writer.now) (g.W.Write.contents c.write_report.new.writer) c.read_replicas.new.replicas.items

@@ -6,7 +6,8 @@ use Rattle.std.specs.Arc.{arc_value}
 use Rattle.checkpoint.specs.Reading.{IsReplicaSpelling, most_checkpoint_bytes}
 use Rattle.ball_model.specs.Job.{PartValue, part_of}
 use Rattle.node.specs.Refusals.{IsNodeCheckpoint, IsNoCheckpoint}
-use Rattle.node.proofs.GatherLemmas.{told_other}
+use Rattle.std.proofs.lemmas.Result.{err_from_is_err_and}
+use Rattle.node.proofs.GatherLemmas.{nothing_lacks, told_other}
 use Rattle.node.proofs.gather.read_replica.Goals as goal
 
 pub returns-in-Ok-clause-read : goal.returns-in-Ok-clause-read
@@ -36,8 +37,14 @@ unfolding part_of
 returns-clause-refused g c =
     let j : Job = job_of c.args.graph.now.graph c.args.plan.now in
     rw (c.checkpoint_fault.ensures.told)
-    (told_other c.args.p (part_of j c.args.p) (g.R.Read.remaining c.args.reader.now) (g.R.Read.remaining c.read_bytes.new.reader) c.read_bytes.new.bytes.items c.in-Err.error refl
+    (told_other c.args.p (part_of j c.args.p) (g.R.Read.remaining c.args.reader.now) (g.R.Read.remaining c.read_bytes.new.reader) c.read_bytes.new.bytes.items c.in-Err.error
+    (subst (λ (q : PartValue). length c.read_bytes.new.bytes.items ≤ most_checkpoint_bytes q q.plan.limit) (c.deref.ensures ∙ c.in_ok-part.ensures) c.in_ok-read_bytes.ensures.few) refl
     c.in_ok-read_bytes.ensures.read
     (λ some.
     subst (λ (l : List ℕ). IsNoCheckpoint (part_of j c.args.p) l c.in-Err.error) c.deref-2.ensures.value
     (subst (λ (x : PartValue). IsNoCheckpoint x c.deref-2.result.now c.in-Err.error) c.in_ok-part.ensures (c.in-Err.ensures.named some))))
+
+pub returns-in_err-part-clause-refused : goal.returns-in_err-part-clause-refused
+returns-in_err-part-clause-refused g c =
+    let p = err_from_is_err_and c.from_residual.result c.from_residual.ensures.1 in
+    rw (p.1, p.2) (nothing_lacks (part_of (job_of c.args.graph.now.graph c.args.plan.now) c.args.p) (g.R.Read.remaining c.args.reader.now))

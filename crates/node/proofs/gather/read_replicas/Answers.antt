@@ -4,7 +4,7 @@ use Rattle.std.proofs.lemmas.Result.{err_from_is_err_and, on_ok_weaker}
 use Rattle.ball_model.specs.Job.{Job, job_of}
 use Rattle.ball_model.specs.State.{State}
 use Rattle.node.specs.Gathering.{ReadsAll}
-use Rattle.node.proofs.GatherLemmas.{reads_kept, reads_none}
+use Rattle.node.proofs.GatherLemmas.{reads_kept, reads_none, start_lacks}
 use Rattle.node.proofs.gather.read_replicas.Goals as goal
 
 pub loop-p-init : goal.loop-p-init
@@ -47,3 +47,8 @@ returns-clause-refused g c =
     let last : c.loop-p.p ≡ c.parts-p-end.result = omega (arith, c.loop-p.auto.p-end, c.loop-p-test.false) in
     c.read_end.ensures.refused j c.loop-p.replicas.items (g.R.Read.remaining c.args.reader.now)
     (subst (λ (n : ℕ). ReadsAll j n (g.R.Read.remaining c.args.reader.now) (g.R.Read.remaining c.loop-p.reader) c.loop-p.replicas.items) (last ∙ c.parts-p-end.ensures.value) c.loop-p.invariant.read)
+
+pub returns-in_err-feeds-clause-refused : goal.returns-in_err-feeds-clause-refused
+returns-in_err-feeds-clause-refused g c =
+    let p = err_from_is_err_and c.from_residual.result c.from_residual.ensures.1 in
+    rw (p.1, p.2) (start_lacks (job_of c.args.graph.now.graph c.args.plan.now) (g.R.Read.remaining c.args.reader.now) (omega (arith, c.requires.job.plan.parts_from)))

@@ -1,10 +1,11 @@
-use Rattle.std.proofs.Common.{◌≡◌, ap, subst, Bool, true, false}
+use Rattle.std.proofs.Common.{◌≡◌, ap, subst, sym, Bool, true, false}
 use Rattle.std.specs.Prelude.{Err}
 use Rattle.std.proofs.lemmas.Result.{err_from_is_err_and}
 use Rattle.ball_model.specs.Input.{Limits}
 use Rattle.ball_model.specs.RunText.{network_in, run_limits}
 use Rattle.node.specs.declared.job.JobOptions.{JobOptions}
 use Rattle.node.specs.Job.{GivesEdges, job_settings_of}
+use Rattle.node.specs.NoJob.{IsNoNetwork}
 use Rattle.node.proofs.JobLemmas.{lacks_mark, refused_edges}
 use Rattle.node.proofs.job.read_edge_section.Goals as goal
 
@@ -12,9 +13,9 @@ use Rattle.node.proofs.job.read_edge_section.Goals as goal
 abbrev asked : JobOptions → Limits
 asked o = run_limits o.large
 
-pub returns-clause-says : goal.returns-clause-says
-returns-clause-says g c =
-    let marked : c.in_ok-marked.marked ≡ true = search c.if-not-marked.false in
+pub returns-in-Ok-clause-says : goal.returns-in-Ok-clause-says
+returns-in-Ok-clause-says g c =
+    let marked : c.in_ok-marked.marked ≡ true = c.in-Ok.ensures.ok in
     let s =
     subst (λ (b : Bool). GivesEdges (asked c.args.options.now) c.args.options.now.delimiter (g.R.Read.remaining c.args.reader.now) (g.R.Read.remaining c.give_section.new.reader) c.give_section.new.edges b) marked
     (c.in_ok-marked.ensures.given (asked c.args.options.now) c.args.options.now.delimiter c.in_ok-edges.ensures.ok) in
@@ -24,9 +25,9 @@ returns-clause-says g c =
       says = λ plain. c.in_ok-read.ensures.ok (asked c.args.options.now) c.args.options.now.delimiter s.front s.given plain;
     }
 
-pub returns-clause-count : goal.returns-clause-count
-returns-clause-count g c =
-    let marked : c.in_ok-marked.marked ≡ true = search c.if-not-marked.false in
+pub returns-in-Ok-clause-count : goal.returns-in-Ok-clause-count
+returns-in-Ok-clause-count g c =
+    let marked : c.in_ok-marked.marked ≡ true = c.in-Ok.ensures.ok in
     let s =
     subst (λ (b : Bool). GivesEdges (asked c.args.options.now) c.args.options.now.delimiter (g.R.Read.remaining c.args.reader.now) (g.R.Read.remaining c.give_section.new.reader) c.give_section.new.edges b) marked
     (c.in_ok-marked.ensures.given (asked c.args.options.now) c.args.options.now.delimiter c.in_ok-edges.ensures.ok) in
@@ -37,14 +38,15 @@ returns-clause-count g c =
       says = λ plain. c.in_ok-read.ensures.count (asked c.args.options.now) c.args.options.now.delimiter s.front s.given plain;
     }
 
-pub returns-then-not-marked-clause-refused : goal.returns-then-not-marked-clause-refused
-returns-then-not-marked-clause-refused g c =
-    let unmarked : c.in_ok-marked.marked ≡ false = search c.if-not-marked.true in
+pub returns-in-Err-clause-refused : goal.returns-in-Err-clause-refused
+returns-in-Err-clause-refused g c =
+    let unmarked : c.in_ok-marked.marked ≡ false = c.in-Err.ensures.none.0 in
     let s =
     subst (λ (b : Bool). GivesEdges (asked c.args.options.now) c.args.options.now.delimiter (g.R.Read.remaining c.args.reader.now) (g.R.Read.remaining c.give_section.new.reader) c.give_section.new.edges b) unmarked
     (c.in_ok-marked.ensures.given (asked c.args.options.now) c.args.options.now.delimiter c.in_ok-edges.ensures.ok) in
-    lacks_mark (network_in (job_settings_of c.args.options.now)) (asked c.args.options.now) c.args.options.now.delimiter (g.R.Read.remaining c.args.reader.now) c.give_section.new.edges c.in_ok-read.read.graph s
-    (λ plain. c.in_ok-read.ensures.ok (asked c.args.options.now) c.args.options.now.delimiter s.front s.given plain)
+    subst (IsNoNetwork (network_in (job_settings_of c.args.options.now)) (g.R.Read.remaining c.args.reader.now)) (sym c.in-Err.ensures.none.1)
+    (lacks_mark (network_in (job_settings_of c.args.options.now)) (asked c.args.options.now) c.args.options.now.delimiter (g.R.Read.remaining c.args.reader.now) c.give_section.new.edges c.in_ok-read.read.graph s
+    (λ plain. c.in_ok-read.ensures.ok (asked c.args.options.now) c.args.options.now.delimiter s.front s.given plain))
 
 pub returns-in_err-read-clause-refused : goal.returns-in_err-read-clause-refused
 returns-in_err-read-clause-refused g c =

@@ -1,7 +1,8 @@
-use Rattle.std.proofs.Common.{◌≡◌, ◌∙◌, ℕ, List, arith, sym, subst, refl}
+use Rattle.std.proofs.Common.{◌≡◌, ◌∙◌, ℕ, List, length, arith, sym, subst, refl}
 use Rattle.std.specs.Io.KnownBytes.{prepend_known}
 use Rattle.node.specs.declared.section.SectionStep.TheVariants as step
-use Rattle.node.proofs.JobLemmas.{lacks_list_mark}
+use Rattle.node.specs.NoJob.{GoesBeyond}
+use Rattle.node.proofs.JobLemmas.{goes_beyond, lacks_list_mark}
 use Rattle.node.proofs.SectionLemmas.{Passed, passed_end, passed_more, passed_start}
 use Rattle.node.proofs.job.read_list.Goals as goal
 
@@ -31,3 +32,10 @@ pub returns-in-End-clause-refused : goal.returns-in-End-clause-refused
 returns-in-End-clause-refused g c =
     lacks_list_mark c.loop-cut.list.items c.loop-cut.cut.begins (g.R.Read.remaining c.args.reader.now) (prepend_known c.loop-cut.cut.ahead.items (g.R.Read.remaining c.loop-cut.reader))
     c.loop-cut.invariant.passed (c.next_step.ensures.end c.in-End.is) (omega (arith, c.loop-cut-test.true, c.len.ensures))
+
+pub returns-in_default-clause-memory : goal.returns-in_default-clause-memory
+returns-in_default-clause-memory g c = λ is.
+    subst (λ (l : List ℕ). GoesBeyond (length l) (g.R.Read.remaining c.args.reader.now)) (sym c.in_default.ensures.items)
+    (goes_beyond c.loop-cut.list.items c.loop-cut.cut.begins c.in-Byte.byte (g.R.Read.remaining c.args.reader.now)
+    (prepend_known c.loop-cut.cut.ahead.items (g.R.Read.remaining c.loop-cut.reader)) (prepend_known c.next_step.new.cut.ahead.items (g.R.Read.remaining c.next_step.new.reader))
+    c.loop-cut.invariant.passed (c.next_step.ensures.byte c.in-Byte.byte c.in-Byte.is))

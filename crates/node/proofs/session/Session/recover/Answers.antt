@@ -1,8 +1,8 @@
-use Rattle.std.proofs.lemmas.Result.{IfOk-from_err, on_err_weaker}
+use Rattle.std.proofs.lemmas.Result.{IfOk-from_err, on_err_weaker, on_ok_weaker}
 use Rattle.ball_model.specs.declared.world.Answer.TheVariants as answer
 use Rattle.ball_model.specs.Join.{join_of}
-use Rattle.node.specs.Turns.{TurnsTo}
-use Rattle.node.proofs.SessionLemmas.{says_checkpoint, says_no_checkpoint}
+use Rattle.node.specs.Turns.{TakesBoth, TakesSpelled, TurnsTo}
+use Rattle.node.proofs.SessionLemmas.{answered_if, answered_on, never_answered, says_checkpoint, says_no_checkpoint}
 use Rattle.node.proofs.session.Session.recover.Goals as goal
 
 pub returns-in-Ok-clause-turned : goal.returns-in-Ok-clause-turned
@@ -25,3 +25,23 @@ returns-in-Ok-clause-front c = on_err_weaker c.take_over.result (λ _. c.in-Ok.e
 
 pub returns-in-Err-clause-front : goal.returns-in-Err-clause-front
 returns-in-Err-clause-front c = on_err_weaker c.no_checkpoint.result c.in-Err.ensures.front c.no_checkpoint.ensures.only
+
+pub returns-in-Ok-clause-taken : goal.returns-in-Ok-clause-taken
+returns-in-Ok-clause-taken c =
+    answered_on c.take_over.result (TakesSpelled c.args.bytes.now c.args.self.now c.take_over.new.self)
+    (on_ok_weaker c.take_over.result (λ (takes : TakesBoth c.args.self.now c.in-Ok.other c.take_over.new.self). record {
+      other = c.in-Ok.other;
+      keepable = c.in-Ok.ensures.keepable;
+      part_is = c.in-Ok.ensures.part;
+      spells = c.in-Ok.ensures.spells;
+      takes = takes;
+    }) (c.take_over.ensures.taken c.in-Ok.ensures.part))
+
+pub returns-in-Ok-clause-answer : goal.returns-in-Ok-clause-answer
+returns-in-Ok-clause-answer c = answered_if c.take_over.result _ (c.take_over.ensures.answer c.in-Ok.ensures.part)
+
+pub returns-in-Err-clause-taken : goal.returns-in-Err-clause-taken
+returns-in-Err-clause-taken c = never_answered c.in-Err.error c.no_checkpoint.result _ c.no_checkpoint.ensures.some
+
+pub returns-in-Err-clause-answer : goal.returns-in-Err-clause-answer
+returns-in-Err-clause-answer c = never_answered c.in-Err.error c.no_checkpoint.result _ c.no_checkpoint.ensures.some
