@@ -1,6 +1,7 @@
 //! The figures of many vertices, in threads.
 
-ghost use Rattle.std.specs.Prelude.{◌≡◌, ◌≤◌, ◌<◌, ◌^◌, [], IfOk, length, map, slice_index_or};
+ghost use Rattle.std.specs.Prelude.{◌≡◌, ◌≤◌, ◌<◌, ◌*◌, ◌^◌, [], IfOk, length, map};
+ghost use Rattle.std.specs.Prelude.{slice_index_or};
 ghost use Rattle.std.specs.List.{All};
 ghost use Rattle.ball_model.specs.declared.plan.TheConstants.{GREATEST_RANK};
 ghost use Rattle.ball_model.specs.Figures.{estimate_of};
@@ -9,6 +10,7 @@ ghost use Rattle.figures.specs.Values.{AreFiguresAt, figures_from, items_between
 ghost use Rattle.figures.specs.Values.{value_of};
 
 use super::{Tally, closeness, estimate, lin};
+use rayon::iter::plumbing::LEAST_PIECE;
 use rayon::prelude::*;
 use registers::Rows;
 use std::alloc::{AllocError, Global};
@@ -68,21 +70,39 @@ pub fn final_figures(
         .collect(rt, alloc)
 }
 
+// How many vertices a piece has at least, where so many are dealt out. Then there are no more pieces than threads; where 0
+// are asked for, each piece is worth a thread, and there may be as many as the processors take.
+fn least_piece(count: usize, threads: usize) -> usize
+    ensures worth { LEAST_PIECE ≤ result }
+    ensures few { 0 < threads → count ≤ threads * result }
+{
+    if threads == 0 {
+        return LEAST_PIECE;
+    }
+    count.div_ceil(threads).max(LEAST_PIECE)
+}
+
 /// Those of the vertices at some of the places, as far as there are such: for callers that have no room for all. Here the
 /// estimate is the tally's last one, raw or corrected, as it was stepped by.
+///
+/// The work is dealt out to at most so many threads; where 0 are asked for, to as many as there are processors.
 pub fn figures_within(
     rt: &(impl Threads + Sync),
     alloc: Global,
     rows: &Rows,
     tallies: &[Tally],
     places: Range<usize>,
+    threads: usize,
 ) -> Result<Vec<Figures>, AllocError>
     requires count { length tallies.now ≡ length rows.now.rows }
     ensures { IfOk result (λ v. v.items ≡ items_between places.start places.end
         (figures_from rows.now.rows (map value_of tallies.now))) }
 {
-    (places.start..places.end.min(tallies.len()))
+    let end = places.end.min(tallies.len());
+    let piece = least_piece(end.saturating_sub(places.start), threads);
+    (places.start..end)
         .into_par_iter()
+        .with_min_len(piece)
         .map(
             |i: usize| -> Figures
                 requires tally { i < length tallies.now }

@@ -227,7 +227,7 @@ fn are_told(figures: &[Figures], wanted: &[(u64, u64, u64, u128, u32)]) -> bool 
         ) == *told)
 }
 
-// The figures of the vertices at some places are these.
+// The figures of the vertices at some places are these, by two threads at most.
 fn figures_are<H: AllocGlobal + Threads + Sync>(
     rt: &H,
     rows: &Rows,
@@ -237,7 +237,7 @@ fn figures_are<H: AllocGlobal + Threads + Sync>(
 ) -> Result<bool, Fail>
     requires count { length tallies.now ≡ length rows.now.rows }
 {
-    let figures = figures_within(rt, rt.alloc(), rows, tallies, places)?;
+    let figures = figures_within(rt, rt.alloc(), rows, tallies, places, 2)?;
     Ok(are_told(&figures, wanted))
 }
 
@@ -374,7 +374,21 @@ fn are_in_order(figures: &[Figures]) -> bool {
             .all(|(i, f)| f.harmonic == i as u64)
 }
 
-// The figures of vertices come in the order of their tallies, of which there is one for each.
+// The figures of vertices come in the order of their tallies, by so many threads at most.
+fn come_by<H: AllocGlobal + Threads + Sync>(
+    rt: &H,
+    rows: &Rows,
+    tallies: &[Tally],
+    threads: usize,
+) -> Result<bool, Fail>
+    requires count { length tallies.now ≡ length rows.now.rows }
+{
+    let all = figures_within(rt, rt.alloc(), rows, tallies, 0..5000, threads)?;
+    Ok(are_in_order(&all))
+}
+
+// The figures of vertices come in the order of their tallies, of which there is one for each: by all processors, by one
+// thread and by two of three.
 fn tallies_come_in_order<H: AllocGlobal + Threads + Sync>(
     rt: &H,
     rows: &Rows,
@@ -387,7 +401,9 @@ fn tallies_come_in_order<H: AllocGlobal + Threads + Sync>(
         return Err(Fail::new("a tally for each row"));
     }
     let all = final_figures(rt, rt.alloc(), 4, rows, tallies)?;
-    Ok(are_in_order(&all))
+    let alone = come_by(rt, rows, tallies, 1)?;
+    let shared = come_by(rt, rows, tallies, 3)?;
+    Ok(are_in_order(&all) && alone && shared)
 }
 
 // The figures of vertices that gained 0, 1, 2, .. come in that order.

@@ -9,3 +9,4 @@ pub mod OrderLemmas
 pub mod RefusalLemmas
 pub mod NodeLemmas
 pub mod TellingLemmas
+pub mod ForetellingLemmas

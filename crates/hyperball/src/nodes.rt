@@ -97,6 +97,7 @@ pub fn node_by<H: AllocGlobal + RandomSource, T: Teller, R: CountedRead, W: Coun
         return Err(NodeFault::Random);
     };
     let watch = TellingWatch::new(teller);
+    watch.before_read(&words.options);
     match serve_node(
         rt.alloc(),
         state,
@@ -164,7 +165,16 @@ pub fn gather_by<
         return Err(GatherFault::Random);
     };
     let watch = TellingWatch::new(teller);
-    match gather(rt, state, &words.options, &watch, reader, writer) {
+    watch.before_read(&words.options);
+    match gather(
+        rt,
+        state,
+        &words.options,
+        usize::from(words.threads),
+        &watch,
+        reader,
+        writer,
+    ) {
         Ok(()) => {
             watch.after_gathering();
             Ok(())

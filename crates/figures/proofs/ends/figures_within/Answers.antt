@@ -16,12 +16,12 @@ collect-requires-clause-ready g c κs within =
     let ends = c.into_par_iter.ensures in
     let n = length c.args.tallies.now in
     let rows = c.args.rows.now.rows in
-    let last = c.min.result in
+    let last = c.min-end.result in
     let inside = nat_range-All (λ i. (i < n) × (i < length rows)) c.args.places.start last
     (λ i low high.
     let below : i < length rows = omega (arith, c.requires.count) in
     (omega arith, below)) in
-    rw (c.map.ensures.base, c.map.ensures.f, ends.0, ends.1)
+    rw (c.map.ensures.base, c.with_min_len.ensures.base, c.map.ensures.f, ends.0, ends.1)
     (λ k d lt.
     let at = inside k d lt in
     ((at.0, at.1), λ y made. tt))
@@ -33,14 +33,14 @@ returns g c =
     let rows = c.args.rows.now.rows in
     let tallies = c.args.tallies.now in
     let from : ℕ = c.args.places.start in
-    let last : ℕ = c.min.result in
+    let last : ℕ = c.min-end.result in
     let of = λ (row : List ℕ) (tally : TallyValue). figures_of tally.last row tally in
     let whole : List Figures = map (λ p. of p.0 p.1) (zip rows (map value_of tallies)) in
     let long : length whole ≡ length rows = zipped_length of value_of rows tallies c.requires.count in
     let at_end : last ≡ min c.args.places.end (length whole) = omega arith in
     let is = λ (i : ℕ) (y : Figures). (d : Tally) → AreFiguresAt (get_or tallies i d).last rows tallies i d y in
     IfOk-then c.collect.result _ _ c.collect.ensures (λ v h.
-    let chain = rw (c.map.ensures.base, c.map.ensures.f) at h.1 in
+    let chain = rw (c.map.ensures.base, c.with_min_len.ensures.base, c.map.ensures.f) at h.1 in
     let places = chain.1 ∙ (λ i. nat_range (ends.0 i) (ends.1 i)) in
     h.2
     ∙ part_of is whole from (last - from) h.0 (omega arith) (subst (λ l. AllZip is l h.0) places chain.2)

@@ -10,8 +10,8 @@ use Rattle.std.proofs.lemmas.Result.{err_from_is_err_and}
 use Rattle.node.proofs.GatherLemmas.{gathered_front}
 use Rattle.node.proofs.gather.gather_parts.Goals as goal
 
-pub write_report-requires-clause-graph : goal.write_report-requires-clause-graph
-write_report-requires-clause-graph g c κs within =
+pub write_report_by-requires-clause-graph : goal.write_report_by-requires-clause-graph
+write_report_by-requires-clause-graph g c κs within =
     let j : Job = job_of c.args.graph.now.graph c.args.plan.now in
     subst (All (λ (v : State). v.part.plan.vertices ≡ c.args.graph.now.graph.vertices)) (sym c.deref-2.ensures.value)
     (all_vertices_read j c.args.graph.now.graph.vertices c.args.plan.now.parts (g.R.Read.remaining c.args.reader.now) (g.R.Read.remaining c.read_replicas.new.reader) c.read_replicas.new.replicas.items
@@ -23,9 +23,9 @@ returns-clause-ok g c =
     let told : c.report_ready.result ≡ true = search c.if-not-report_ready.false in
     let ready : are_ready c.read_replicas.new.replicas.items ≡ true = ap are_ready (sym c.deref.ensures.value) ∙ sym c.report_ready.ensures ∙ told in
     gathered j c.args.graph.now.labels (g.R.Read.remaining c.args.reader.now) (g.R.Read.remaining c.read_replicas.new.reader)
-    (g.W.Write.contents c.args.writer.now) (g.W.Write.contents c.write_report.new.writer) c.read_replicas.new.replicas.items
+    (g.W.Write.contents c.args.writer.now) (g.W.Write.contents c.write_report_by.new.writer) c.read_replicas.new.replicas.items
     c.in_ok-read_replicas.ensures.read ready c.in_ok-read_replicas.ensures.end
-    (λ stand. c.in_ok-write_report.ensures.ok j refl (subst (AllStand j) (sym c.deref-2.ensures.value) stand))
+    (λ stand. c.in_ok-write_report_by.ensures.ok j refl (subst (AllStand j) (sym c.deref-2.ensures.value) stand))
 
 pub returns-in_err-read_replicas-clause-write : goal.returns-in_err-read_replicas-clause-write
 returns-in_err-read_replicas-clause-write g c = λ is.
@@ -40,14 +40,14 @@ returns-then-not-report_ready-clause-refused g c =
     unready j (g.R.Read.remaining c.args.reader.now) (g.R.Read.remaining c.read_replicas.new.reader) c.read_replicas.new.replicas.items
     c.in_ok-read_replicas.ensures.read c.in_ok-read_replicas.ensures.end (ap are_ready (sym c.deref.ensures.value) ∙ sym c.report_ready.ensures ∙ told)
 
-pub returns-in_err-write_report-clause-front : goal.returns-in_err-write_report-clause-front
-returns-in_err-write_report-clause-front g c =
+pub returns-in_err-write_report_by-clause-front : goal.returns-in_err-write_report_by-clause-front
+returns-in_err-write_report_by-clause-front g c =
     let j : Job = job_of c.args.graph.now.graph c.args.plan.now in
-    let p = err_from_is_err_and c.from_residual-in_err-write_report.result c.from_residual-in_err-write_report.ensures.1 in
+    let p = err_from_is_err_and c.from_residual-in_err-write_report_by.result c.from_residual-in_err-write_report_by.ensures.1 in
     let told : c.report_ready.result ≡ true = search c.if-not-report_ready.false in
     let ready : are_ready c.read_replicas.new.replicas.items ≡ true = ap are_ready (sym c.deref.ensures.value) ∙ sym c.report_ready.ensures ∙ told in
     rw (p.1)
     (gathered_front j c.args.graph.now.labels (g.R.Read.remaining c.args.reader.now) (g.R.Read.remaining c.read_replicas.new.reader)
-    (g.W.Write.contents c.args.writer.now) (g.W.Write.contents c.write_report.new.writer) c.read_replicas.new.replicas.items
+    (g.W.Write.contents c.args.writer.now) (g.W.Write.contents c.write_report_by.new.writer) c.read_replicas.new.replicas.items
     c.in_ok-read_replicas.ensures.read ready c.in_ok-read_replicas.ensures.end
-    (λ stand. c.in_err-write_report.ensures.front j refl (subst (AllStand j) (sym c.deref-2.ensures.value) stand)))
+    (λ stand. c.in_err-write_report_by.ensures.front j refl (subst (AllStand j) (sym c.deref-2.ensures.value) stand)))
