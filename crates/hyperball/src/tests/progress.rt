@@ -50,11 +50,14 @@ const WRITTEN: &[u8] = b"hyperball: the answers are written\n";
 
 const ANSWERED: &[u8] = b"hyperball: the commands are answered\n";
 
-const NO_LOG2M: &[u8] = b"hyperball: no plan has log2m 12 (4 to 10 are allowed): the job will be refused once the edge list is read\n";
+const NO_LOG2M: &[u8] =
+    b"hyperball: no plan has log2m 12 (4 to 10 are allowed): the job will be refused once the edge list is read\n";
 
-const NO_PARTS: &[u8] = b"hyperball: no plan has parts 65 (1 to 64 are allowed): the job will be refused once the edge list is read\n";
+const NO_PARTS: &[u8] =
+    b"hyperball: no plan has parts 65 (1 to 64 are allowed): the job will be refused once the edge list is read\n";
 
-const NO_LIMIT: &[u8] = b"hyperball: no plan has limit 0 (1 to 4096 are allowed): the job will be refused once the edge list is read\n";
+const NO_LIMIT: &[u8] =
+    b"hyperball: no plan has limit 0 (1 to 4096 are allowed): the job will be refused once the edge list is read\n";
 
 const FAULT_OF_LOG2M: &[u8] = b"hyperball: log2m is not from 4 to 10\n";
 
@@ -168,13 +171,7 @@ static TELLINGS: [Telling; 23] = [
         &[NO_LIMIT],
     ),
     (
-        (
-            "hyperball run --log2m 12",
-            &[EDGES],
-            1,
-            &[],
-            FAULT_OF_LOG2M,
-        ),
+        ("hyperball run --log2m 12", &[EDGES], 1, &[], FAULT_OF_LOG2M),
         &[],
     ),
     (
