@@ -14,8 +14,8 @@ use Rattle.report.proofs.write.put_block.Goals as goal
 pub nonzero_div-first : goal.nonzero_div-first
 nonzero_div-first g c = omega (arith, (are_ready-facts c.args.replicas.now c.requires.ready).some)
 
-pub div_ceil-requires : goal.div_ceil-requires
-div_ceil-requires g c = omega (arith, (are_ready-facts c.args.replicas.now c.requires.ready).some)
+pub div_ceil-last-requires : goal.div_ceil-last-requires
+div_ceil-last-requires g c = omega (arith, (are_ready-facts c.args.replicas.now c.requires.ready).some)
 
 -- the vertices have their places among the figures that were made
 pub put_lines-requires-clause-places : goal.put_lines-requires-clause-places
