@@ -9,4 +9,3 @@ pub mod OrderLemmas
 pub mod RefusalLemmas
 pub mod NodeLemmas
 pub mod TellingLemmas
-pub mod ForetellingLemmas
