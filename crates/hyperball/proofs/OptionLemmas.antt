@@ -65,8 +65,8 @@ same_job_options log2m seed parts limit e d large counted o a b p l k g z h = λ
 pub same_node_words : (o : JobOptions) (part : ℕ) (progress : Bool) (w : NodeWords) → o ≡ w.options → part ≡ w.part → progress ≡ w.progress → ◌≡◌ {A = NodeWords} (record { options = o; part = part; progress = progress }) w
 same_node_words o part progress w a p t = λ i. record { options = a i; part = p i; progress = t i }
 
-pub same_gather_words : (o : JobOptions) (progress : Bool) (w : GatherWords) → o ≡ w.options → progress ≡ w.progress → ◌≡◌ {A = GatherWords} (record { options = o; progress = progress }) w
-same_gather_words o progress w a t = λ i. record { options = a i; progress = t i }
+pub same_gather_words : (o : JobOptions) (threads : ℕ) (progress : Bool) (w : GatherWords) → o ≡ w.options → threads ≡ w.threads → progress ≡ w.progress → ◌≡◌ {A = GatherWords} (record { options = o; threads = threads; progress = progress }) w
+same_gather_words o threads progress w a n t = λ i. record { options = a i; threads = n i; progress = t i }
 
 -- a text that was read is given
 pub given_is : (f : Found) (id : Text) (text : Option Text) → text ≡ first_value f id → is_some text ≡ true → is_some (first_of id (rows_of f)) ≡ true

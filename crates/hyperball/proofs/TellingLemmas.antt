@@ -27,6 +27,18 @@ pub read_text : (records vertices : ℕ) →
     codes "hyperball: " ++ (decimal records ++ (codes " records and " ++ (decimal vertices ++ codes " vertices are read")))
 read_text records vertices = search (rules, append_assoc)
 
+pub log2m_text : (log2m : ℕ) →
+    told_text (told.NoLog2m log2m) ≡ codes "hyperball: no plan has log2m " ++ (decimal log2m ++ codes " (4 to 10 are allowed): the job will be refused once the edge list is read")
+log2m_text log2m = search (rules, append_assoc)
+
+pub parts_text : (parts : ℕ) →
+    told_text (told.NoParts parts) ≡ codes "hyperball: no plan has parts " ++ (decimal parts ++ codes " (1 to 64 are allowed): the job will be refused once the edge list is read")
+parts_text parts = search (rules, append_assoc)
+
+pub limit_text : (limit : ℕ) →
+    told_text (told.NoLimit limit) ≡ codes "hyperball: no plan has limit " ++ (decimal limit ++ codes " (1 to 4096 are allowed): the job will be refused once the edge list is read")
+limit_text limit = search (rules, append_assoc)
+
 pub superstep_text : (superstep changed vertices : ℕ) →
     told_text (told.Superstep superstep changed vertices) ≡
     codes "hyperball: superstep " ++ (decimal superstep ++ (codes ", " ++ (decimal changed ++ (codes " of " ++ (decimal vertices ++ codes " vertices changed")))))
@@ -100,7 +112,14 @@ changed-no_end a of_all changed vertices h is =
     (numbered first of_all vertices (numbered a (codes ", ") changed h refl) is)
     (seen (codes " vertices changed") refl)
 
+-- a number between two texts
+foretold-no_end : (a : List ℕ) (n : ℕ) (b : List ℕ) → seen_no_end a ≡ true → seen_no_end b ≡ true → HasNoEnd (a ++ decimal n ++ b)
+foretold-no_end a n b h k = joined (a ++ decimal n) b (joined a (decimal n) (seen a h) (decimal-no_end n)) (seen b k)
+
 news-no_end : (news : Told) → HasNoEnd (news_text news)
+news-no_end (told.NoLog2m log2m) = foretold-no_end (codes "no plan has log2m ") log2m (codes " (4 to 10 are allowed): the job will be refused once the edge list is read") refl refl
+news-no_end (told.NoParts parts) = foretold-no_end (codes "no plan has parts ") parts (codes " (1 to 64 are allowed): the job will be refused once the edge list is read") refl refl
+news-no_end (told.NoLimit limit) = foretold-no_end (codes "no plan has limit ") limit (codes " (1 to 4096 are allowed): the job will be refused once the edge list is read") refl refl
 news-no_end (told.Read records vertices) =
     joined (decimal records ++ codes " records and " ++ decimal vertices) (codes " vertices are read")
     (numbered (decimal records) (codes " records and ") vertices (decimal-no_end records) refl)

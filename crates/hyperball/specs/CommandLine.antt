@@ -141,7 +141,8 @@ node_app p = with_progress (with_large
 
 -- the subcommand `gather`
 unfoldable pub gather_app : Parsers → App
-gather_app p = with_progress (with_large (with_job p (new_app (codes "gather"))))
+gather_app p =
+    with_progress (with_large (with_threads (with_job p (new_app (codes "gather")))))
 
 -- the program, which has a version and wants a subcommand, before it has one
 abbrev pub new_hyperball : App

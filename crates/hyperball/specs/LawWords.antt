@@ -108,8 +108,9 @@ telling_node = record { options = usual_job; part = 0; progress = true }
 abbrev pub gathered_job : GatherWords
 gathered_job = record {
   options = record usual_job { parts = 3; estimate = Corrected; delimiter = Comma; large = true };
+  threads = 2;
   progress = false;
 }
 
 abbrev pub telling_gathering : GatherWords
-telling_gathering = record { options = usual_job; progress = true }
+telling_gathering = record { options = usual_job; threads = 0; progress = true }

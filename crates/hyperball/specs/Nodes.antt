@@ -26,10 +26,11 @@ pub record AreNodeOptionsOf (rows : List Row) (w : NodeWords) : Type 0 where
   pub part : IsNumberOr 0 16 rows (codes "part") w.part
   pub progress : IsFlag rows (codes "progress") w.progress
 
--- and the flag, and whether a gathering tells its progress
+-- and the flag, how many threads a gathering has, and whether it tells its progress
 pub record AreGatherOptionsOf (rows : List Row) (w : GatherWords) : Type 0 where
   pub options : AreJobOptionsOf rows w.options
   pub large : IsFlag rows (codes "large") w.options.large
+  pub threads : IsNumberOr usual_options.threads 16 rows (codes "threads") w.threads
   pub progress : IsFlag rows (codes "progress") w.progress
 
 -- the subcommand is node or gather, with these options or their defaults

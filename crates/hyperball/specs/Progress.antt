@@ -1,14 +1,27 @@
 -- What is told of how a command gets on.
-use Rattle.std.specs.Prelude.{◌≡◌, ℕ, List, [], ◌∷◌, ◌++◌, Option, MatchOption, codes, decimal}
+use Rattle.std.specs.Prelude.{◌≡◌, ℕ, List, [], ◌∷◌, ◌++◌, Option, MatchOption, Err, codes, decimal}
 use Rattle.std.specs.List.{flat_map}
 use Rattle.std.specs.Io.KnownBytes.{Appends, Keeps}
+use Rattle.ball_model.specs.Graph.{Graph}
+use Rattle.ball_model.specs.RunText.{Numbers, plan_asked}
 use Rattle.ball_model.specs.WorldText.{node_word}
+use Rattle.ball_model.specs.declared.plan.PlanError.{PlanError}
+use Rattle.ball_model.specs.declared.plan.PlanError.TheVariants as fault
 use Rattle.node.specs.Stream.{HasNoEnd}
 use Rattle.hyperball.specs.declared.told.Told.{Told}
 use Rattle.hyperball.specs.declared.told.Told.TheVariants as told
 
 -- what a line of progress says
 abbrev pub news_text : Told → List ℕ
+news_text (told.NoLog2m log2m) =
+    codes "no plan has log2m " ++ decimal log2m ++ codes
+    " (4 to 10 are allowed): the job will be refused once the edge list is read"
+news_text (told.NoParts parts) =
+    codes "no plan has parts " ++ decimal parts ++ codes
+    " (1 to 64 are allowed): the job will be refused once the edge list is read"
+news_text (told.NoLimit limit) =
+    codes "no plan has limit " ++ decimal limit ++ codes
+    " (1 to 4096 are allowed): the job will be refused once the edge list is read"
 news_text (told.Read records vertices) =
     decimal records ++ codes " records and " ++ decimal vertices ++ codes " vertices are read"
 news_text told.Start = codes "the supersteps begin"
@@ -57,3 +70,26 @@ abbrev pub Awaits : {F T : Type 0} → (F → T → Option (List ℕ) → Type 0
     F → Option T → Option (List ℕ) → Type 0
 Awaits has_lent contents faults teller before =
     MatchOption teller (Keeps before (contents faults)) (λ t. has_lent faults t before)
+
+-- a plan is asked for by these three numbers, among others
+abbrev pub AsksBy : ℕ → ℕ → ℕ → Numbers → Type 0
+AsksBy log2m parts limit n = (n.log2m ≡ log2m) × ((n.parts ≡ parts) × (n.limit ≡ limit))
+
+-- the line tells the one of them that this fault is about
+abbrev pub TellsOf : ℕ → ℕ → ℕ → PlanError → Told → Type 0
+TellsOf log2m parts limit fault.Log2m news = news ≡ told.NoLog2m log2m
+TellsOf log2m parts limit fault.Parts news = news ≡ told.NoParts parts
+TellsOf log2m parts limit fault.Limit news = news ≡ told.NoLimit limit
+TellsOf log2m parts limit fault.Vertices news = ⊥
+
+-- the line tells of a fault that every plan by these numbers has, whatever the graph
+pub record Foretells (log2m parts limit : ℕ) (news : Told) : Type 0 where
+  pub error : PlanError
+  pub tells : TellsOf log2m parts limit error news
+  pub refused : (n : Numbers) (g : Graph) → AsksBy log2m parts limit n → plan_asked n g ≡ Err error
+
+-- where a plan by these numbers is refused, it is for its vertices
+abbrev pub IsRefusedForVertices : ℕ → ℕ → ℕ → Type 0
+IsRefusedForVertices log2m parts limit =
+    (n : Numbers) (g : Graph) (error : PlanError) → AsksBy log2m parts limit n →
+    plan_asked n g ≡ Err error → error ≡ fault.Vertices

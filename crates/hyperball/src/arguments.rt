@@ -3,7 +3,7 @@
 ghost use Rattle.std.specs.Prelude.{◌≡◌, IfOk, codes, false};
 ghost use Rattle.clap.specs.Words.{App, new_app, rule_of};
 ghost use Rattle.hyperball.specs.CommandLine.{IsApp, flag_rule, option_rule, rule_in};
-ghost use Rattle.hyperball.specs.CommandLine.{with_arguments};
+ghost use Rattle.hyperball.specs.CommandLine.{thread_number, with_arguments};
 
 use clap::builder::ValueParser;
 use clap::{Arg, ArgAction, Command};
@@ -56,6 +56,13 @@ pub fn flag<'a>(name: &'a str, help: &'a str) -> Argument<'a>
         help,
         parser: None,
     }
+}
+
+/// The option of a number of threads, with its help.
+pub fn threads<'a>(help: &'a str) -> Argument<'a>
+    ensures { rule_in result ≡ option_rule (codes "threads") thread_number }
+{
+    option("threads", help, ValueParser::Signed(0, 1024))
 }
 
 /// The flag of large edge lists.

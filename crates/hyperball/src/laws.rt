@@ -115,7 +115,8 @@ pub fn words_of_a_node()
         third_node }
     ensures gather { IsGather
         (codes "hyperball" ∷ codes "gather" ∷ codes "--parts=3" ∷ codes "--estimate"
-        ∷ codes "corrected" ∷ codes "--delimiter=comma" ∷ codes "--large" ∷ [])
+        ∷ codes "corrected" ∷ codes "--delimiter=comma" ∷ codes "--threads" ∷ codes "2"
+        ∷ codes "--large" ∷ [])
         gathered_job }
     ensures telling { IsNode
         (codes "hyperball" ∷ codes "node" ∷ codes "--progress" ∷ [])
@@ -125,7 +126,8 @@ pub fn words_of_a_node()
         telling_gathering }
 {}
 
-/// These words ask for help on node or gather, or are mistaken: a report is of all partitions, and a node is one replica.
+/// These words ask for help on node or gather, or are mistaken: a report is of all partitions, and a node is one replica,
+/// with one thread.
 pub fn words_of_no_node()
     ensures help { HasFaults
         (codes "hyperball" ∷ codes "node" ∷ codes "--help" ∷ [])
@@ -139,6 +141,12 @@ pub fn words_of_no_node()
     ensures number { HasFaults
         (codes "hyperball" ∷ codes "node" ∷ codes "--part" ∷ codes "65536" ∷ [])
         (ValueValidation ∷ []) }
+    ensures threads { HasFaults
+        (codes "hyperball" ∷ codes "gather" ∷ codes "--threads" ∷ codes "1025" ∷ [])
+        (ValueValidation ∷ []) }
+    ensures node_threads { HasFaults
+        (codes "hyperball" ∷ codes "node" ∷ codes "--threads" ∷ codes "2" ∷ [])
+        (UnknownArgument ∷ []) }
 {}
 
 /// These words ask for the version or for help, or no command is named; the commands have no version of their own.

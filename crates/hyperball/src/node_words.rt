@@ -8,8 +8,9 @@ ghost use Rattle.hyperball.specs.Words.{IsFlag};
 ghost use Rattle.hyperball.specs.declared.node_words.GatherWords.{GatherWords as Gathered};
 ghost use Rattle.hyperball.specs.declared.node_words.NodeWords.{NodeWords as Noded};
 
-use crate::arguments::{Texts, large, option, progress, subcommand_of};
+use crate::arguments::{Texts, large, option, progress, subcommand_of, threads};
 use crate::job_words::{job_arguments, job_options_of};
+use crate::options::USUAL;
 use crate::words::{wants_large, wants_progress};
 use clap::builder::ValueParser;
 use clap::{ArgMatches, Command, value_parser};
@@ -85,6 +86,10 @@ const GATHER_AFTER: &str = "Example, of two partitions whose nodes gave 0.hbck a
     for p in 0 1; do echo part $(wc -c < $p.hbck); cat $p.hbck; done; } |
     hyperball gather --parts 2 > report.csv
 
+Cores:
+  The figures take all cores, or as many threads as --threads says: 2 on a machine that others use,
+  say. The report is the same.
+
 Memory:
   It keeps the counters of all vertices, 2 * 2^log2m bytes each, and the edge list as a node does.
   Where they do not fit into one machine, totals and figures of each node tell its own part of the
@@ -102,6 +107,9 @@ const NODE_PARTS_HELP: &str =
 
 const GATHER_PARTS_HELP: &str =
     "Partitions of the job, 1 to 64: so many checkpoints follow the edge list [default: 1]";
+
+const GATHER_THREADS_HELP: &str =
+    "Threads that make the figures, 1 to 1024; 0: one a core [default: 0]";
 
 const PART_HELP: &str =
     "Partition of this node, from 0 on: each node of a job has another one [default: 0]";
@@ -122,6 +130,8 @@ pub struct NodeWords {
 pub struct GatherWords {
     /// The options of its job.
     pub options: JobOptions,
+    /// How many threads make the figures; 0: as many as there are processors.
+    pub threads: u16,
     /// Whether progress is to be told.
     pub progress: bool,
 }
@@ -162,7 +172,8 @@ pub fn gather_command<'a>(
         after_help: GATHER_AFTER,
     };
     let job = job_arguments(GATHER_PARTS_HELP, estimates, delimiters);
-    subcommand_of(alloc, &texts, &job, &[large(), progress()])
+    let others = [threads(GATHER_THREADS_HELP), large(), progress()];
+    subcommand_of(alloc, &texts, &job, &others)
 }
 
 /// What the words of a node say. Values are as `clap` has checked them.
@@ -187,6 +198,11 @@ pub fn gather_words_of(matches: &ArgMatches<'_>) -> GatherWords
         result.progress ≡ b }
 {
     let options = job_options_of(matches, wants_large(matches));
+    let threads = matches.get_one("threads").unwrap_or(USUAL.threads);
     let progress = wants_progress(matches);
-    GatherWords { options, progress }
+    GatherWords {
+        options,
+        threads,
+        progress,
+    }
 }

@@ -123,6 +123,7 @@ pub fn node_by<H: AllocGlobal + RandomSource, T: Teller, R: CountedRead, W: Coun
         return Err(NodeFault::Random);
     };
     let watch = TellingWatch::new(teller);
+    watch.before_read(&words.options);
     let served = serve_node(
         rt.alloc(),
         state,
@@ -188,7 +189,16 @@ pub fn gather_by<
         return Err(GatherFault::Random);
     };
     let watch = TellingWatch::new(teller);
-    let gathered = gather(rt, state, &words.options, &watch, reader, writer);
+    watch.before_read(&words.options);
+    let gathered = gather(
+        rt,
+        state,
+        &words.options,
+        usize::from(words.threads),
+        &watch,
+        reader,
+        writer,
+    );
     if gathered.is_ok() {
         watch.after_gathering();
     }

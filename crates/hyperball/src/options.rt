@@ -34,7 +34,7 @@ pub struct Options {
     pub keep: u32,
     /// After so many idle turns in succession a replica gives up.
     pub patience: u32,
-    /// How many threads large supersteps use, of all replicas together; 0: as many as there are processors.
+    /// How many threads large supersteps use, of all replicas together, and the figures; 0: as many as there are processors.
     pub threads: u16,
 }
 

@@ -1,20 +1,22 @@
 //! What is told of how a command gets on, where that is asked for.
 //!
 //! [`LendTeller`] hands out a [`Teller`], which tells lines of progress ([`Told`]) and nothing else, and takes it back.
+//! What is refused whatever the graph is told before the edge list is read ([`foretold`]).
 //! Of a run [`RunProgress`] says what is told, and its [`TellingGate`] says when; a replay, a node and a gathering have
 //! a [`TellingWatch`].
 
-ghost use Rattle.std.specs.Prelude.{◌≡◌, List, None, Option, ℕ};
-ghost use Rattle.hyperball.specs.Progress.{TellsProgress};
+ghost use Rattle.std.specs.Prelude.{◌≡◌, IfSome, List, None, Option, ℕ};
+ghost use Rattle.hyperball.specs.Progress.{Foretells, IsRefusedForVertices, TellsProgress};
 
 use crate::told::Told;
-use ball_model::NodeId;
 use ball_model::plan::GREATEST_LIMIT;
+use ball_model::{NodeId, Plan, PlanError};
+use node::job::JobOptions;
 use std::alloc::{AllocError, Global};
 use std::io::{Eprint, Stderr, Write};
 use std::sync::atomic::{AtomicU32, AtomicU64, Ordering};
 use std::time::Clock;
-use workers::{Gate, SleepingGate};
+use workers::{Gate, RunOptions, SleepingGate};
 use world::watch::Watch;
 
 /// What tells lines of progress.
@@ -62,6 +64,20 @@ impl LendTeller for Stderr {
     fn end(&mut self, _teller: Stderr) {}
 }
 
+/// What is told of these numbers where no plan has them, whatever the graph: the first of them in the order of the checks.
+/// (A plan of no vertices has the same fault.)
+pub fn foretold(log2m: u8, parts: u16, limit: u32) -> Option<Told>
+    ensures some { IfSome result (Foretells log2m parts limit) }
+    ensures none { result ≡ None → IsRefusedForVertices log2m parts limit }
+{
+    match Plan::new(log2m, 0, parts, limit, 0, [0; 32]) {
+        Err(PlanError::Log2m) => Some(Told::NoLog2m { log2m }),
+        Err(PlanError::Parts) => Some(Told::NoParts { parts }),
+        Err(PlanError::Limit) => Some(Told::NoLimit { limit }),
+        Err(PlanError::Vertices) | Ok(_) => None,
+    }
+}
+
 // How many partitions have come to a superstep, and how many of their vertices changed at it.
 #[derive(Drop)]
 struct Superstep {
@@ -107,6 +123,15 @@ impl<'a, T: Teller> RunProgress<'a, T> {
             reached: at_start(alloc, parts)?,
             supersteps: no_supersteps(alloc)?,
         })
+    }
+
+    // The edge list is to be read, where the other options are in their limits.
+    fn note_begin(&self, options: &RunOptions) {
+        if options.are_in_limits()
+            && let Some(told) = foretold(options.log2m, options.parts, options.limit)
+        {
+            self.teller.tell(told);
+        }
     }
 
     // The edge list is read.
@@ -199,6 +224,13 @@ impl<'a, C: Clock, T: Teller> TellingGate<'a, C, T> {
         })
     }
 
+    /// The run begins, by these options.
+    pub fn before_run(&self, options: &RunOptions) {
+        if let Some(progress) = &self.progress {
+            progress.note_begin(options);
+        }
+    }
+
     /// The run has ended, and written its report or not.
     pub fn after_run(&self, written: bool) {
         if let Some(progress) = &self.progress
@@ -251,6 +283,13 @@ impl<'a, T: Teller> TellingWatch<'a, T> {
     /// Nothing is told yet.
     pub fn new(teller: &'a Option<T>) -> TellingWatch<'a, T> {
         TellingWatch { teller }
+    }
+
+    /// The edge list of a job is to be read.
+    pub fn before_read(&self, options: &JobOptions) {
+        if let Some(told) = foretold(options.log2m, options.parts, options.limit) {
+            self.tell(told);
+        }
     }
 
     /// The replay has ended, and written its answers or not.

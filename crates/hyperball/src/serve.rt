@@ -340,6 +340,7 @@ fn run_told<
     let Ok(gate) = TellingGate::new(rt.alloc(), rt, teller.as_ref(), options.parts) else {
         return Err(RunFault::Gate);
     };
+    gate.before_run(&options);
     let answer = run_by(rt, words.counted, &options, &gate, reader, writer);
     gate.after_run(answer.is_ok());
     answer

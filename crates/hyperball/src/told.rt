@@ -7,6 +7,18 @@ use std::fmt::Display;
 /// A line of progress.
 #[derive(Clone, Copy, Debug)]
 pub enum Told {
+    /// No plan has this log2m, whatever the graph.
+    NoLog2m {
+        log2m: u8,
+    },
+    /// No plan has so many partitions.
+    NoParts {
+        parts: u16,
+    },
+    /// No plan has this limit.
+    NoLimit {
+        limit: u32,
+    },
     /// An edge list is read, of so many records and vertices.
     Read {
         records: u64,
@@ -43,6 +55,24 @@ impl Display for Told {
 
     fn fmt<W: fmt::Write>(&self, f: &mut fmt::Formatter<W>) -> fmt::Result {
         match *self {
+            Told::NoLog2m { log2m } => {
+                write!(
+                    f,
+                    "hyperball: no plan has log2m {log2m} (4 to 10 are allowed): the job will be refused once the edge list is read"
+                )
+            }
+            Told::NoParts { parts } => {
+                write!(
+                    f,
+                    "hyperball: no plan has parts {parts} (1 to 64 are allowed): the job will be refused once the edge list is read"
+                )
+            }
+            Told::NoLimit { limit } => {
+                write!(
+                    f,
+                    "hyperball: no plan has limit {limit} (1 to 4096 are allowed): the job will be refused once the edge list is read"
+                )
+            }
             Told::Read { records, vertices } => {
                 write!(
                     f,

@@ -30,7 +30,7 @@ ghost use Rattle.ball_model.specs.declared.plan.Estimate.TheVariants.{Raw};
 ghost use Rattle.edgelist.specs.declared.read.Delimiter.{Delimiter as Between};
 ghost use Rattle.edgelist.specs.declared.read.Delimiter.TheVariants.{Tab};
 
-use crate::arguments::{Argument, Texts, large, option, progress, subcommand_of};
+use crate::arguments::{Argument, Texts, large, option, progress, subcommand_of, threads};
 use crate::job_words::{job_arguments, job_options_of};
 use crate::node_words::{
     GatherWords, NodeWords, gather_command, gather_words_of, node_command, node_words_of,
@@ -86,7 +86,7 @@ Cores:
   threads as there are cores, or as --threads says: 2 on a machine that others use, say. Partitions
   and replicas are for workers that may be lost, and for several machines ('hyperball node'). Each
   replica of each partition has a thread of its own, and an equal share of the threads. The last
-  figures take all cores, whatever --threads says. The report is the same for all of these.
+  figures take as many threads. The report is the same for all of these.
 
 Large edge lists:
   More than 2^24 vertices or 2^26 records are too many, unless --large is said: it lifts the limits
@@ -95,7 +95,7 @@ Large edge lists:
 
 Refusals:
   What is wrong with the edge list is told first: --log2m, --parts and --limit that are out of range
-  are refused only once all of it was read.
+  are refused only once all of it was read. With --progress a line says so at the start.
 
 Figures:
   Harmonic centrality 0.000000 with Lin's index 1.000000: nobody else that counts gets there.
@@ -131,7 +131,7 @@ const RESTART_HELP: &str =
     "To try it, workers that start anew from what is kept, in the form of --lose";
 
 const THREADS_HELP: &str =
-    "Threads that work at once in large supersteps, 1 to 1024; 0: as many as there are cores [default: 0]";
+    "Threads that work at once in large supersteps and on figures, 1 to 1024; 0: one a core [default: 0]";
 
 /// What the words of a run say.
 #[derive(Clone, Copy, PartialEq, Eq)]
@@ -166,7 +166,7 @@ fn run_arguments<'a>() -> [Argument<'a>; 9]
         option("entries", ENTRIES_HELP, value_parser!(u32)),
         option("keep", KEEP_HELP, value_parser!(u32)),
         option("patience", PATIENCE_HELP, value_parser!(u32)),
-        option("threads", THREADS_HELP, ValueParser::Signed(0, 1024)),
+        threads(THREADS_HELP),
         option("lose", LOSE_HELP, ValueParser::String),
         option("restart", RESTART_HELP, ValueParser::String),
         large(),

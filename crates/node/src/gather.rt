@@ -30,7 +30,7 @@ use ball_model::{CountedRead, CountedWrite, Plan};
 use checkpoint::KeepError;
 use edgelist::{Feeds, Graph, Part};
 use replica::Replica;
-use report::{report_ready, write_report};
+use report::{report_ready, write_report_by};
 use std::alloc::{AllocError, AllocGlobal, Global};
 use std::hash::RandomState;
 use std::sync::Arc;
@@ -269,11 +269,13 @@ fn need_end(replicas: &[Replica]) -> Result<(), GatherError>
 /// before the next is read; then that nothing follows, and then that all are of the end of one run. Nothing is written
 /// before that. Memory is taken as bytes come, and may be refused at each; where it is refused or a write fails while the
 /// report is written, a beginning of it was written. The watch is told of each checkpoint that was read, as of a close
-/// that went on to its superstep.
+/// that went on to its superstep. The figures are made by at most so many threads; where 0 are asked for, by all
+/// processors.
 pub fn gather_parts<T: AllocGlobal + Threads + Sync, R: CountedRead, W: CountedWrite, V: Watch>(
     rt: &T,
     graph: &Graph,
     plan: &Plan,
+    threads: usize,
     watch: &V,
     reader: &mut R,
     writer: &mut W,
@@ -304,16 +306,18 @@ pub fn gather_parts<T: AllocGlobal + Threads + Sync, R: CountedRead, W: CountedW
     let mut replicas = Vec::new(rt.alloc());
     read_replicas(rt.alloc(), graph, plan, watch, reader, &mut replicas)?;
     need_end(&replicas)?;
-    write_report(rt, writer, graph, &replicas)?;
+    write_report_by(rt, writer, graph, &replicas, threads)?;
     Ok(())
 }
 
 /// Reads a job and the checkpoints of all its partitions at the end of their run, and writes their report. The watch is
-/// called once the job is read, and told of each checkpoint.
+/// called once the job is read, and told of each checkpoint. The figures are made by at most so many threads; where 0 are
+/// asked for, by all processors.
 pub fn gather<T: AllocGlobal + Threads + Sync, R: CountedRead, W: CountedWrite, V: Watch>(
     rt: &T,
     state: RandomState,
     options: &JobOptions,
+    threads: usize,
     watch: &V,
     reader: &mut R,
     writer: &mut W,
@@ -344,7 +348,7 @@ pub fn gather<T: AllocGlobal + Threads + Sync, R: CountedRead, W: CountedWrite, 
 {
     let (graph, plan, records) = read_job(rt.alloc(), state, options, reader)?;
     watch.after_read(records, graph.vertices());
-    let gathered = gather_parts(rt, &graph, &plan, watch, reader, writer);
+    let gathered = gather_parts(rt, &graph, &plan, threads, watch, reader, writer);
     drop(graph);
     gathered
 }

@@ -8,7 +8,8 @@
 //! vertex,a,11.390942,0.000000,0.000000,1.000000,15
 //! ```
 //!
-//! [`report_ready`] says whether replicas are at the end of their run, and [`write_report`] writes their report.
+//! [`report_ready`] says whether replicas are at the end of their run, and [`write_report`] writes their report, by all
+//! processors; [`write_report_by`] does so by as many threads as are asked for.
 //! [`totals_text`] and [`figures_text`] give lines of it alone. Written into [`Pages`], it goes out when it is whole.
 #![tactic(auto)]
 
@@ -23,7 +24,7 @@ mod write;
 pub use own::{figures_text, totals_text};
 pub use pages::Pages;
 pub use ready::report_ready;
-pub use write::{ReportError, write_report};
+pub use write::{ReportError, write_report, write_report_by};
 
 #[cfg(test)]
 mod tests;

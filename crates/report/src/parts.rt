@@ -42,19 +42,28 @@ fn totals(alloc: Global, replicas: &[Replica], end: u32) -> Result<Vec<u128>, Al
     Ok(totals)
 }
 
-// The figures of a replica's vertices at the places from `first` on and below `last`, as far as there are such.
+// The figures of a replica's vertices at the places from `first` on and below `last`, as far as there are such, by at
+// most so many threads, or by all processors where 0 are asked for.
 fn own_figures<T: AllocGlobal + Threads + Sync>(
     rt: &T,
     replica: &Replica,
     first: usize,
     last: usize,
+    threads: usize,
 ) -> Result<Vec<Figures>, AllocError>
     ensures value { IfOk result (λ own. own.items ≡ figures_among first last replica.now) }
     ensures size { HasSize replica.now }
 {
     let _superstep = replica.superstep();
     let alloc = rt.alloc();
-    figures_within(rt, alloc, replica.rows(), replica.tallies(), first..last)
+    figures_within(
+        rt,
+        alloc,
+        replica.rows(),
+        replica.tallies(),
+        first..last,
+        threads,
+    )
 }
 
 // Puts these of each replica behind none.
@@ -64,6 +73,7 @@ fn put_figures<T: AllocGlobal + Threads + Sync>(
     replicas: &[Replica],
     first: usize,
     last: usize,
+    threads: usize,
 ) -> Result<(), AllocError>
     requires { parts.old.items ≡ [] }
     ensures value { OnOk result
@@ -71,7 +81,7 @@ fn put_figures<T: AllocGlobal + Threads + Sync>(
     ensures sizes { OnOk result (All HasSize replicas.now) }
 {
     for replica in replicas {
-        parts.push(own_figures(rt, replica, first, last)?)?;
+        parts.push(own_figures(rt, replica, first, last, threads)?)?;
     }
     Ok(())
 }
@@ -82,13 +92,14 @@ pub(crate) fn figures<T: AllocGlobal + Threads + Sync>(
     replicas: &[Replica],
     first: usize,
     last: usize,
+    threads: usize,
 ) -> Result<Vec<Vec<Figures>>, AllocError>
     ensures value { IfOk result (λ parts.
         lists_in parts.items ≡ map (figures_among first last) replicas.now) }
     ensures sizes { OnOk result (All HasSize replicas.now) }
 {
     let mut parts = Vec::with_capacity(rt.alloc(), replicas.len())?;
-    put_figures(rt, &mut parts, replicas, first, last)?;
+    put_figures(rt, &mut parts, replicas, first, last, threads)?;
     Ok(parts)
 }
 

@@ -215,28 +215,39 @@ fn are_of(graph: &Graph, replicas: &[Replica]) -> bool
     true
 }
 
-// The answer for replicas that are ready.
+// The answer for replicas that are ready, by so many threads at most; by all processors where it is 0.
 fn written<H: AllocGlobal + Threads + Sync, W: CountedWrite>(
     rt: &H,
     writer: &mut W,
     graph: &Graph,
     replicas: &[Replica],
+    threads: usize,
 ) -> Option<Result<(), ReportError>> {
     if !report_ready(replicas) || !are_of(graph, replicas) {
         return None;
     }
-    Some(write_report(rt, writer, graph, replicas))
+    if threads == 0 {
+        return Some(write_report(rt, writer, graph, replicas));
+    }
+    Some(write_report_by(rt, writer, graph, replicas, threads))
 }
 
-// Whether this is their report.
+// Whether this is their report, by so many threads.
 fn reports<H: AllocGlobal + Threads + Sync>(
     rt: &H,
     graph: &Graph,
     replicas: &[Replica],
     wanted: &[u8],
+    threads: usize,
 ) -> bool {
     let mut output = Vec::new(rt.alloc());
-    let answer = written(rt, &mut CountingWriter::new(&mut output), graph, replicas);
+    let answer = written(
+        rt,
+        &mut CountingWriter::new(&mut output),
+        graph,
+        replicas,
+        threads,
+    );
     answer == Some(Ok(())) && output.as_slice() == wanted
 }
 
@@ -249,7 +260,7 @@ fn is_report_of<H: AllocGlobal + Threads + Sync>(
 ) -> Option<bool> {
     let (_, end, wanted) = *worked;
     let all = replicas_at(rt, graph, parts, 4096, end)?;
-    Some(reports(rt, graph, &all, wanted))
+    Some(reports(rt, graph, &all, wanted, 0) && reports(rt, graph, &all, wanted, 1))
 }
 
 // Whether it is in one to five partitions.
@@ -391,7 +402,7 @@ fn written_in<H: AllocGlobal + Threads + Sync>(
 ) -> Option<Result<(), ReportError>> {
     let all = replicas_at(rt, graph, 2, 4096, 3)?;
     let mut full = Full { calls };
-    written(rt, &mut CountingWriter::new(&mut full), graph, &all)
+    written(rt, &mut CountingWriter::new(&mut full), graph, &all, 0)
 }
 
 // The same, of the two edges.

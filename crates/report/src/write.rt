@@ -115,7 +115,7 @@ fn put_lines<W: CountedWrite>(
     Ok(())
 }
 
-// The same, of figures that are made for it.
+// The same, of figures that are made for it by at most so many threads, or by all processors where 0 are asked for.
 fn put_block<T: AllocGlobal + Threads + Sync, W: CountedWrite>(
     rt: &T,
     writer: &mut W,
@@ -123,6 +123,7 @@ fn put_block<T: AllocGlobal + Threads + Sync, W: CountedWrite>(
     replicas: &[Replica],
     from: u32,
     to: u32,
+    threads: usize,
 ) -> Result<(), ReportError>
     requires ready { are_ready replicas.now ≡ true }
     requires graph { All (λ v. v.part.plan.vertices ≡ graph.now.graph.vertices) replicas.now }
@@ -133,16 +134,18 @@ fn put_block<T: AllocGlobal + Threads + Sync, W: CountedWrite>(
 {
     let count = replicas.len();
     let first = from as usize / count;
-    let parts = figures(rt, replicas, first, (to as usize).div_ceil(count))?;
+    let last = (to as usize).div_ceil(count);
+    let parts = figures(rt, replicas, first, last, threads)?;
     put_lines(rt.alloc(), writer, graph, &parts, first, from, to)
 }
 
-// Writes the lines of all vertices, some of each partition at a time, so that all processors have work.
+// Writes the lines of all vertices, some of each partition at a time, so that all threads have work.
 fn put_vertices<T: AllocGlobal + Threads + Sync, W: CountedWrite>(
     rt: &T,
     writer: &mut W,
     graph: &Graph,
     replicas: &[Replica],
+    threads: usize,
 ) -> Result<(), ReportError>
     requires ready { are_ready replicas.now ≡ true }
     requires graph { All (λ v. v.part.plan.vertices ≡ graph.now.graph.vertices) replicas.now }
@@ -154,7 +157,7 @@ fn put_vertices<T: AllocGlobal + Threads + Sync, W: CountedWrite>(
     let mut from = 0;
     while from < count {
         let to = from + block.min(count - from);
-        put_block(rt, writer, graph, replicas, from, to)?;
+        put_block(rt, writer, graph, replicas, from, to, threads)?;
         from = to;
     }
     Ok(())
@@ -183,9 +186,31 @@ pub fn write_report<T: AllocGlobal + Threads + Sync, W: CountedWrite>(
     ensures write { result ≡ Err ReportError.Write →
         Rises (W.failed_calls writer.old) (W.failed_calls writer.new) }
 {
+    write_report_by(rt, writer, graph, replicas, 0)
+}
+
+/// The same, where the figures are made by at most so many threads; by all processors where 0 are asked for.
+pub fn write_report_by<T: AllocGlobal + Threads + Sync, W: CountedWrite>(
+    rt: &T,
+    writer: &mut W,
+    graph: &Graph,
+    replicas: &[Replica],
+    threads: usize,
+) -> Result<(), ReportError>
+    requires ready { are_ready replicas.now ≡ true }
+    requires graph { All (λ v. v.part.plan.vertices ≡ graph.now.graph.vertices) replicas.now }
+    ensures ok { OnOk result (
+        AddsReportOfAll W.contents writer.old writer.new graph.now replicas.now) }
+    ensures front { OnErr result (
+        AddsFront W.contents writer.old writer.new graph.now replicas.now) }
+    ensures counted { result ≢ Err ReportError.Write →
+        W.failed_calls writer.new ≡ W.failed_calls writer.old }
+    ensures write { result ≡ Err ReportError.Write →
+        Rises (W.failed_calls writer.old) (W.failed_calls writer.new) }
+{
     let first = &replicas[0];
     let end = first.superstep();
     let stable = is_stable(first);
     put_top(rt.alloc(), writer, replicas, end, stable)?;
-    put_vertices(rt, writer, graph, replicas)
+    put_vertices(rt, writer, graph, replicas, threads)
 }

@@ -1,5 +1,4 @@
-//! A run from bytes to bytes: a thread for each node, more of them in large supersteps, and all processors for the
-//! figures.
+//! A run from bytes to bytes: a thread for each node, and more of them in large supersteps and for the figures.
 
 ghost use Rattle.std.specs.Prelude.{◌≡◌, ◌≢◌, ◌<◌, Ok, Err, true, false, OnOk, OnErr, IfOk, IfErr};
 ghost use Rattle.std.specs.Prelude.{IfSome, length};
@@ -30,7 +29,7 @@ use edgelist::{
     read_large_edge_list,
 };
 use replica::Replica;
-use report::{Pages, write_report};
+use report::{Pages, write_report_by};
 use std::alloc::{AllocError, AllocGlobal, Global};
 use std::hash::RandomState;
 use std::sync::Wait;
@@ -229,12 +228,14 @@ fn bare_plan_for(graph: &Graph, options: &RunOptions) -> Result<Plan, PlanError>
     graph.bare_plan(options.estimate, log2m, seed, parts, limit)
 }
 
-// The text of the report of replicas at the end of their run. The error is that memory was refused.
+// The text of the report of replicas at the end of their run, by at most so many threads; by all processors where 0 are
+// asked for. The error is that memory was refused.
 fn replicas_text<T: AllocGlobal + Threads + Sync>(
     rt: &T,
     graph: &Graph,
     plan: &Plan,
     replicas: &[Replica],
+    threads: usize,
 ) -> Result<Pages, AllocError>
     requires job { IsJob (job_of graph.now.graph plan.now) }
     requires done { AreDone (job_of graph.now.graph plan.now) replicas.now }
@@ -242,7 +243,7 @@ fn replicas_text<T: AllocGlobal + Threads + Sync>(
         report_of (mixing_of plan.now) graph.now.graph graph.now.labels plan.now.limit) }
 {
     let mut text = CountingWriter::new(Pages::new(rt.alloc()));
-    match write_report(rt, &mut text, graph, replicas) {
+    match write_report_by(rt, &mut text, graph, replicas, threads) {
         Ok(()) => Ok(text.into_inner()),
         Err(_) => Err(AllocError),
     }
@@ -265,7 +266,7 @@ fn planned_text<T: AllocGlobal + Threads + Wait + Sync, G: Gate + Sync>(
     ensures fault { IfErr result (IsFaultOf plan.now.parts options.now) }
 {
     let replicas = run_job(rt, graph, plan, parts, options, gate)?;
-    let text = replicas_text(rt, graph, plan, &replicas)?;
+    let text = replicas_text(rt, graph, plan, &replicas, usize::from(options.threads))?;
     Ok(text)
 }
 
@@ -329,8 +330,8 @@ fn write_text<W: CountedWrite>(writer: &mut W, text: &Pages) -> Result<(), RunEr
 }
 
 /// Reads an edge list and writes its report. A thread for each replica of each partition makes the supersteps; where many
-/// vertices changed, it shares the work with others, so that together they use as many as the options say. All processors
-/// make the figures.
+/// vertices changed, it shares the work with others, so that together they use as many as the options say. So many make
+/// the figures, once these have ended.
 ///
 /// With a list of `counted` vertices only those are counted; the list is read after the edge list, and its lines are
 /// as there, one label in each. The report is built in memory and then written, so nothing is written unless the

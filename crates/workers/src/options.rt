@@ -25,8 +25,8 @@ pub struct RunOptions {
     pub delimiter: Delimiter,
     /// Whether up to 2^31 vertices and 2^32 - 1 records are taken, in place of 2^24 and 2^26.
     pub large: bool,
-    /// How many threads large supersteps use, of all nodes together, each of which has at least one; 0: as many as there
-    /// are processors. No result depends on it.
+    /// How many threads large supersteps use, of all nodes together, each of which has at least one, and how many make the
+    /// report's figures; 0: as many as there are processors. No result depends on it.
     pub threads: u16,
     /// How many replicas each partition has, from 1 to 4.
     pub replicas: u8,

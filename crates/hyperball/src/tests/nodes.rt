@@ -173,7 +173,7 @@ static ANSWERS: [Case; 14] = [
         b"",
     ),
     (
-        "hyperball gather --log2m 4 --counted",
+        "hyperball gather --log2m 4 --counted --threads 1",
         &[MARKED, b"a\n%%\npart 356\n", LISTED_END],
         0,
         &[ONE_COUNTED],

@@ -50,8 +50,19 @@ const WRITTEN: &[u8] = b"hyperball: the answers are written\n";
 
 const ANSWERED: &[u8] = b"hyperball: the commands are answered\n";
 
+const NO_LOG2M: &[u8] =
+    b"hyperball: no plan has log2m 12 (4 to 10 are allowed): the job will be refused once the edge list is read\n";
+
+const NO_PARTS: &[u8] =
+    b"hyperball: no plan has parts 65 (1 to 64 are allowed): the job will be refused once the edge list is read\n";
+
+const NO_LIMIT: &[u8] =
+    b"hyperball: no plan has limit 0 (1 to 4096 are allowed): the job will be refused once the edge list is read\n";
+
+const FAULT_OF_LOG2M: &[u8] = b"hyperball: log2m is not from 4 to 10\n";
+
 /// What commands tell.
-static TELLINGS: [Telling; 17] = [
+static TELLINGS: [Telling; 23] = [
     // The edge list, three supersteps and the report, however many workers there are, and nothing where it is not asked
     // for. Of several workers a partition two lines may change places.
     ((RUN, &[EDGES], 0, &[REPORT], b""), &[]),
@@ -126,6 +137,62 @@ static TELLINGS: [Telling; 17] = [
             b"hyperball: superstep 1, 2 of 3 vertices changed\n",
             REPORTED,
         ],
+    ),
+    // The first of three numbers that no plan has, before the edge list is read, and nothing where it is not asked for or
+    // where no edge list is read.
+    (
+        (
+            "hyperball run --log2m 12 --parts 65 --progress",
+            &[EDGES],
+            1,
+            &[],
+            FAULT_OF_LOG2M,
+        ),
+        &[NO_LOG2M, READ],
+    ),
+    (
+        (
+            "hyperball run --progress --parts 65 --limit 0",
+            &[EDGES],
+            1,
+            &[],
+            b"hyperball: parts is not from 1 to 64\n",
+        ),
+        &[NO_PARTS, READ],
+    ),
+    (
+        (
+            "hyperball run --limit 0 --large --progress",
+            &[b"a\tb\tc\n"],
+            1,
+            &[],
+            b"hyperball: record 1 has not one or two identifiers\n",
+        ),
+        &[NO_LIMIT],
+    ),
+    (
+        ("hyperball run --log2m 12", &[EDGES], 1, &[], FAULT_OF_LOG2M),
+        &[],
+    ),
+    (
+        (
+            "hyperball run --log2m 12 --replicas 5 --progress",
+            &[EDGES],
+            1,
+            &[],
+            b"hyperball: an option does not fit the job\n",
+        ),
+        &[],
+    ),
+    (
+        (
+            "hyperball gather --progress --log2m 12",
+            &[MARKED],
+            1,
+            &[],
+            FAULT_OF_LOG2M,
+        ),
+        &[NO_LOG2M],
     ),
     // The edge list, each close that went on, and the end: the partition is at its last superstep after three closes.
     (

@@ -184,6 +184,8 @@ const GATHER_HELP: Pieces = &[
     b"What stands between",
     b"--counted\n ",
     b"Count only",
+    b"--threads <",
+    b"Threads that make",
     b"--large",
     b"2^32 - 1 records",
     b"--progress",
@@ -596,6 +598,7 @@ static READINGS: [(&str, Reading); 8] = [
         "hyperball gather",
         Reading::Gather(GatherWords {
             options: JOB,
+            threads: 0,
             progress: false,
         }),
     ),
@@ -603,6 +606,7 @@ static READINGS: [(&str, Reading); 8] = [
         "hyperball gather --progress",
         Reading::Gather(GatherWords {
             options: JOB,
+            threads: 0,
             progress: true,
         }),
     ),
@@ -615,9 +619,10 @@ static READINGS: [(&str, Reading); 8] = [
         }),
     ),
     (
-        "hyperball gather --large",
+        "hyperball gather --large --threads 3",
         Reading::Gather(GatherWords {
             options: LARGE_JOB,
+            threads: 3,
             progress: false,
         }),
     ),

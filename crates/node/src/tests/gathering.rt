@@ -42,7 +42,7 @@ fn end_of_gathering<T: AllocGlobal + RandomSource + Threads + Sync, V: Watch>(
 ) -> Option<Result<(), GatherError>> {
     let state = RandomState::new(rt).ok()?;
     let mut reader = MemReader::new(input, None);
-    Some(gather(rt, state, options, watch, &mut reader, writer))
+    Some(gather(rt, state, options, 1, watch, &mut reader, writer))
 }
 
 /// Whether a gathering of such a job that reads this writes and ends as the case says.

@@ -28,7 +28,7 @@ fn front<H: AllocGlobal + Threads + Sync>(
     fails_at: Option<u64>,
 ) -> Option<Written> {
     let mut writer = MemWriter::with_room(rt.alloc(), 1024, fails_at).ok()?;
-    let answer = written(rt, &mut writer, graph, replicas);
+    let answer = written(rt, &mut writer, graph, replicas, 2);
     let bytes = writer.into_bytes();
     Some((answer, bytes.len(), REPORT.starts_with(&bytes)))
 }
@@ -67,7 +67,13 @@ fn dripped<H: AllocGlobal + Threads + Sync>(
         taken: 0,
         same: true,
     };
-    let answer = written(rt, &mut CountingWriter::new(&mut writer), graph, replicas);
+    let answer = written(
+        rt,
+        &mut CountingWriter::new(&mut writer),
+        graph,
+        replicas,
+        0,
+    );
     (answer, writer.taken, writer.same)
 }
 

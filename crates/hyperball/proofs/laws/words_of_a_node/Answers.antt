@@ -54,7 +54,7 @@ returns-clause-third c = record {
 }
 
 abbrev gather_line : List Text
-gather_line = codes "hyperball" ∷ codes "gather" ∷ codes "--parts=3" ∷ codes "--estimate" ∷ codes "corrected" ∷ codes "--delimiter=comma" ∷ codes "--large" ∷ []
+gather_line = codes "hyperball" ∷ codes "gather" ∷ codes "--parts=3" ∷ codes "--estimate" ∷ codes "corrected" ∷ codes "--delimiter=comma" ∷ codes "--threads" ∷ codes "2" ∷ codes "--large" ∷ []
 
 pub returns-clause-gather : goal.returns-clause-gather
 unfolding clap_on_literals hyperball_app gather_app node_app replay_app run_app
@@ -74,6 +74,7 @@ returns-clause-gather c = record {
         counted = refl;
       };
       large = refl;
+      threads = record { numeral = (lit< tt, (lit< tt, tt)); value = refl; fits = lit< tt };
       progress = refl;
     },
   ));
@@ -111,6 +112,7 @@ returns-clause-telling_gather c = record {
     record {
       options = record { log2m = refl; seed = refl; parts = refl; limit = refl; estimate = refl; delimiter = refl; counted = refl };
       large = refl;
+      threads = refl;
       progress = refl;
     },
   ));

@@ -21,3 +21,11 @@ returns-clause-replicas c = record { are = of_names (λ p. fault_of (hyperball_a
 pub returns-clause-number : goal.returns-clause-number
 unfolding clap_on_literals hyperball_app gather_app node_app replay_app run_app
 returns-clause-number c = record { are = of_names (λ p. fault_of (hyperball_app p) (codes "hyperball" ∷ codes "node" ∷ codes "--part" ∷ codes "65536" ∷ []) ≡ ValueValidation ∷ []) (λ at. refl) }
+
+pub returns-clause-threads : goal.returns-clause-threads
+unfolding clap_on_literals hyperball_app gather_app node_app replay_app run_app
+returns-clause-threads c = record { are = of_names (λ p. fault_of (hyperball_app p) (codes "hyperball" ∷ codes "gather" ∷ codes "--threads" ∷ codes "1025" ∷ []) ≡ ValueValidation ∷ []) (λ at. refl) }
+
+pub returns-clause-node_threads : goal.returns-clause-node_threads
+unfolding clap_on_literals hyperball_app gather_app node_app replay_app run_app
+returns-clause-node_threads c = record { are = of_names (λ p. fault_of (hyperball_app p) (codes "hyperball" ∷ codes "node" ∷ codes "--threads" ∷ codes "2" ∷ []) ≡ UnknownArgument ∷ []) (λ at. refl) }

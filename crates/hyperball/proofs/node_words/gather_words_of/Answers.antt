@@ -1,6 +1,13 @@
-use Rattle.hyperball.proofs.OptionLemmas.{same_gather_words}
+use Rattle.std.proofs.Common.{◌∙◌, codes}
+use Rattle.std.specs.Str.Parse.{ExplainsUnsignedError, HasUnsignedDigitsIfOk}
+use Rattle.clap.specs.Words.{found_of}
+use Rattle.hyperball.proofs.OptionLemmas.{number_is, same_gather_words}
 use Rattle.hyperball.proofs.node_words.gather_words_of.Goals as goal
 
 pub returns-clause-options : goal.returns-clause-options
 returns-clause-options c = λ w h.
-    same_gather_words _ _ w (c.job_options_of-options.ensures w.options h.options (c.wants_large.ensures w.options.large h.large)) (c.wants_progress-progress.ensures w.progress h.progress)
+    let f = found_of c.args.matches.now in
+    same_gather_words _ _ _ w
+    (c.job_options_of-options.ensures w.options h.options (c.wants_large.ensures w.options.large h.large))
+    (c.unwrap_or-threads.ensures ∙ number_is (λ t r. ExplainsUnsignedError 10 t r) (λ t r. HasUnsignedDigitsIfOk t r) f (codes "threads") 0 16 w.threads c.get_one.result c.get_one.ensures.none c.get_one.ensures.value h.threads)
+    (c.wants_progress-progress.ensures w.progress h.progress)

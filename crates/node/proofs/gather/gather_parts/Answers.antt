@@ -11,8 +11,8 @@ use Rattle.std.proofs.lemmas.Result.{err_from_is_err_and}
 use Rattle.node.proofs.GatherLemmas.{gathered_front}
 use Rattle.node.proofs.gather.gather_parts.Goals as goal
 
-pub write_report-requires-clause-graph : goal.write_report-requires-clause-graph
-write_report-requires-clause-graph g c κs within =
+pub write_report_by-requires-clause-graph : goal.write_report_by-requires-clause-graph
+write_report_by-requires-clause-graph g c κs within =
     let j : Job = job_of c.args.graph.now.graph c.args.plan.now in
     subst (All (λ (v : State). v.part.plan.vertices ≡ c.args.graph.now.graph.vertices)) (sym c.deref-2.ensures.value)
     (all_vertices_read j c.args.graph.now.graph.vertices c.args.plan.now.parts (g.R.Read.remaining c.args.reader.now) (g.R.Read.remaining c.read_replicas.new.reader) c.read_replicas.new.replicas.items
@@ -23,9 +23,9 @@ returns-clause-ok g c =
     let j : Job = job_of c.args.graph.now.graph c.args.plan.now in
     let ready : are_ready c.read_replicas.new.replicas.items ≡ true = ap are_ready (sym c.deref.ensures.value) ∙ c.in_ok-need_end.ensures.ok in
     gathered j c.args.graph.now.labels (g.R.Read.remaining c.args.reader.now) (g.R.Read.remaining c.read_replicas.new.reader)
-    (g.W.Write.contents c.args.writer.now) (g.W.Write.contents c.write_report.new.writer) c.read_replicas.new.replicas.items
+    (g.W.Write.contents c.args.writer.now) (g.W.Write.contents c.write_report_by.new.writer) c.read_replicas.new.replicas.items
     c.in_ok-read_replicas.ensures.read ready c.in_ok-read_replicas.ensures.end
-    (λ stand. c.in_ok-write_report.ensures.ok j refl (subst (AllStand j) (sym c.deref-2.ensures.value) stand))
+    (λ stand. c.in_ok-write_report_by.ensures.ok j refl (subst (AllStand j) (sym c.deref-2.ensures.value) stand))
 
 pub returns-in_err-read_replicas-clause-write : goal.returns-in_err-read_replicas-clause-write
 returns-in_err-read_replicas-clause-write g c = λ is.
@@ -43,21 +43,21 @@ returns-in_err-need_end-clause-refused g c =
     (unready j (g.R.Read.remaining c.args.reader.now) (g.R.Read.remaining c.read_replicas.new.reader) c.read_replicas.new.replicas.items
     c.in_ok-read_replicas.ensures.read c.in_ok-read_replicas.ensures.end (ap are_ready (sym c.deref.ensures.value) ∙ c.in_err-need_end.ensures.none.0)))
 
-pub returns-in_err-write_report-clause-refused : goal.returns-in_err-write_report-clause-refused
-returns-in_err-write_report-clause-refused g c =
+pub returns-in_err-write_report_by-clause-refused : goal.returns-in_err-write_report_by-clause-refused
+returns-in_err-write_report_by-clause-refused g c =
     let j : Job = job_of c.args.graph.now.graph c.args.plan.now in
-    let p = err_from_is_err_and c.from_residual-in_err-write_report.result c.from_residual-in_err-write_report.ensures.1 in
+    let p = err_from_is_err_and c.from_residual-in_err-write_report_by.result c.from_residual-in_err-write_report_by.ensures.1 in
     rw (p.1, p.2)
     (ready_lacks j (g.R.Read.remaining c.args.reader.now) (g.R.Read.remaining c.read_replicas.new.reader) c.read_replicas.new.replicas.items _
     c.in_ok-read_replicas.ensures.read c.in_ok-read_replicas.ensures.end (ap are_ready (sym c.deref.ensures.value) ∙ c.in_ok-need_end.ensures.ok))
 
-pub returns-in_err-write_report-clause-front : goal.returns-in_err-write_report-clause-front
-returns-in_err-write_report-clause-front g c =
+pub returns-in_err-write_report_by-clause-front : goal.returns-in_err-write_report_by-clause-front
+returns-in_err-write_report_by-clause-front g c =
     let j : Job = job_of c.args.graph.now.graph c.args.plan.now in
-    let p = err_from_is_err_and c.from_residual-in_err-write_report.result c.from_residual-in_err-write_report.ensures.1 in
+    let p = err_from_is_err_and c.from_residual-in_err-write_report_by.result c.from_residual-in_err-write_report_by.ensures.1 in
     let ready : are_ready c.read_replicas.new.replicas.items ≡ true = ap are_ready (sym c.deref.ensures.value) ∙ c.in_ok-need_end.ensures.ok in
     rw (p.1)
     (gathered_front j c.args.graph.now.labels (g.R.Read.remaining c.args.reader.now) (g.R.Read.remaining c.read_replicas.new.reader)
-    (g.W.Write.contents c.args.writer.now) (g.W.Write.contents c.write_report.new.writer) c.read_replicas.new.replicas.items
+    (g.W.Write.contents c.args.writer.now) (g.W.Write.contents c.write_report_by.new.writer) c.read_replicas.new.replicas.items
     c.in_ok-read_replicas.ensures.read ready c.in_ok-read_replicas.ensures.end
-    (λ stand. c.in_err-write_report.ensures.front j refl (subst (AllStand j) (sym c.deref-2.ensures.value) stand)))
+    (λ stand. c.in_err-write_report_by.ensures.front j refl (subst (AllStand j) (sym c.deref-2.ensures.value) stand)))

@@ -14,8 +14,8 @@ use Rattle.report.proofs.write.put_block.Goals as goal
 pub nonzero_div-first : goal.nonzero_div-first
 nonzero_div-first g c = omega (arith, (are_ready-facts c.args.replicas.now c.requires.ready).some)
 
-pub div_ceil-requires : goal.div_ceil-requires
-div_ceil-requires g c = omega (arith, (are_ready-facts c.args.replicas.now c.requires.ready).some)
+pub div_ceil-last-requires : goal.div_ceil-last-requires
+div_ceil-last-requires g c = omega (arith, (are_ready-facts c.args.replicas.now c.requires.ready).some)
 
 -- the vertices have their places among the figures that were made
 pub put_lines-requires-clause-places : goal.put_lines-requires-clause-places
@@ -24,19 +24,19 @@ put_lines-requires-clause-places g c = λ x low high.
     let n : ℕ = c.args.graph.now.graph.vertices in
     let ready : AreReady vs = are_ready-facts vs c.requires.ready in
     let d : State = a_replica vs ready.some in
-    has_place n (c.args.from / length vs) c.div_ceil.result x vs d (lists_in c.deref.result.now) (ap lists_in c.deref.ensures.value ∙ c.in_ok-parts.ensures.value)
+    has_place n (c.args.from / length vs) c.div_ceil-last.result x vs d (lists_in c.deref.result.now) (ap lists_in c.deref.ensures.value ∙ c.in_ok-parts.ensures.value)
     (have_sizes n vs d ready c.in_ok-parts.ensures.sizes c.requires.graph) ready.some (omega arith)
     (places_from (length vs) c.args.from x ready.some low)
-    (subst (λ last. x / length vs < last) (sym c.div_ceil.ensures) (places_to (length vs) c.args.to x ready.some high))
+    (subst (λ last. x / length vs < last) (sym c.div_ceil-last.ensures) (places_to (length vs) c.args.to x ready.some high))
 
 pub returns : goal.returns
 returns g c =
     let vs = c.args.replicas.now in
     let ready : AreReady vs = are_ready-facts vs c.requires.ready in
-    let lines = block_lines c.args.graph.now.labels (c.args.from / length vs) c.div_ceil.result c.args.from c.args.to vs (a_replica vs ready.some) (lists_in c.deref.result.now)
+    let lines = block_lines c.args.graph.now.labels (c.args.from / length vs) c.div_ceil-last.result c.args.from c.args.to vs (a_replica vs ready.some) (lists_in c.deref.result.now)
     (ap lists_in c.deref.ensures.value ∙ c.in_ok-parts.ensures.value) ready.some (omega (arith, c.requires.from))
     (λ x low. places_from (length vs) c.args.from x ready.some low)
-    (λ x high. subst (λ last. x / length vs < last) (sym c.div_ceil.ensures) (places_to (length vs) c.args.to x ready.some high)) in
+    (λ x high. subst (λ last. x / length vs < last) (sym c.div_ceil-last.ensures) (places_to (length vs) c.args.to x ready.some high)) in
     subst (λ (text : List ℕ). WritesText g.W.Write.contents g.W.CountedWrite.failed_calls c.args.writer.now c.put_lines.new.writer text c.put_lines.result) lines c.put_lines.ensures
 
 pub returns-in_err-parts : goal.returns-in_err-parts

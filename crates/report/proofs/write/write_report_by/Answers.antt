@@ -7,7 +7,7 @@ use Rattle.report.proofs.FrontLemmas.{front_first}
 use Rattle.report.proofs.ReadyLemmas.{are_ready-facts}
 use Rattle.report.proofs.ReportLemmas.{report_text}
 use Rattle.report.proofs.WrittenLemmas.{adds_front, adds_report, none_failed, one_failed, writes_then}
-use Rattle.report.proofs.write.write_report.Goals as goal
+use Rattle.report.proofs.write.write_report_by.Goals as goal
 
 pub bounds-replicas-0 : goal.bounds-replicas-0
 bounds-replicas-0 g c = (are_ready-facts c.args.replicas.now c.requires.ready).some
