@@ -1,11 +1,13 @@
 -- What is noted of the ends of nodes, one after the other, is what there is to note of all.
-use Rattle.std.proofs.Common.{◌≡◌, ℕ, ◌+◌, Bool, true, false, ◌||◌, ◌&&◌, if◌then◌else◌, List, [], ◌∷◌, refl, sym, ap, ◌∙◌}
-use Rattle.std.specs.Prelude.{Option, None, Some, Result}
-use Rattle.std.specs.List.{list_any}
+use Rattle.std.proofs.Common.{◌≡◌, ℕ, ◌+◌, Bool, true, false, ◌||◌, ◌&&◌, if◌then◌else◌, List, [], ◌∷◌, map, refl, sym, ap, ◌∙◌}
+use Rattle.std.specs.Prelude.{Option, None, Some, Result, Ok, Err, is_some}
+use Rattle.std.specs.List.{list_all, list_any}
+use Rattle.ball_model.specs.State.{State}
 use Rattle.workers.specs.declared.ends.Faults.{Faults}
 use Rattle.workers.specs.declared.node.NodeEnd.{NodeEnd}
+use Rattle.workers.specs.declared.node.NodeEnd.TheVariants as ends
 use Rattle.workers.specs.declared.node.NodeError.{NodeError}
-use Rattle.workers.specs.Ends.{all_lost, each_has_done, faults_in, first_some, first_waiting, found_full, is_done, is_lost, lacked_memory, least_lost, least_waiting, no_faults, waited, with_end, with_part}
+use Rattle.workers.specs.Ends.{all_lost, done_of, each_has_done, fault_of, faults_in, first_done, first_fault, first_some, first_waiting, found_full, is_done, is_lost, lacked_memory, least_lost, least_waiting, no_faults, waited, with_end, with_part}
 
 -- ---- tests and options, one behind another
 or_three : (a b c : Bool) → (a || (b || c)) ≡ ((a || b) || c)
@@ -66,8 +68,32 @@ lost_more r rs all was both h is = ap (λ (b : Bool). b && all_lost rs) is ∙ (
 pub done_more : (r : Result NodeEnd NodeError) (rs all : List (Result NodeEnd NodeError)) (was now : Bool) → (was || list_any is_done (r ∷ rs)) ≡ list_any is_done all → now ≡ (was || is_done r) → (now || list_any is_done rs) ≡ list_any is_done all
 done_more r rs all was now h is = ap (λ (b : Bool). b || list_any is_done rs) is ∙ (sym (or_three was (is_done r) (list_any is_done rs)) ∙ h)
 
-pub done_all : (rest own : List (Result NodeEnd NodeError)) (now : Bool) → rest ≡ [] → (now || list_any is_done rest) ≡ list_any is_done own → now ≡ list_any is_done own
-done_all rest own now none h = sym (or_none now) ∙ (ap (λ (r : List (Result NodeEnd NodeError)). now || list_any is_done r) (sym none) ∙ h)
+-- the replica of the first that has
+pub first_more : (r : Result NodeEnd NodeError) (rs all : List (Result NodeEnd NodeError)) (was now : Option State) → first_some was (first_done (r ∷ rs)) ≡ first_done all → now ≡ first_some was (done_of r) →
+    first_some now (first_done rs) ≡ first_done all
+unfolding first_done
+first_more r rs all was now h is = ap (λ (o : Option State). first_some o (first_done rs)) is ∙ (sym (first_three was (done_of r) (first_done rs)) ∙ h)
+
+pub first_all : (rest all : List (Result NodeEnd NodeError)) (now : Option State) → rest ≡ [] → first_some now (first_done rest) ≡ first_done all → now ≡ first_done all
+unfolding first_done
+first_all rest all now none h = sym (first_none now) ∙ (ap (λ (r : List (Result NodeEnd NodeError)). first_some now (first_done r)) (sym none) ∙ h)
+
+done_has : (r : Result NodeEnd NodeError) → is_some (done_of r) ≡ is_done r
+done_has (Ok (ends.Done v)) = refl
+done_has (Ok (ends.Lost s)) = refl
+done_has (Ok (ends.Starved s q)) = refl
+done_has (Err e) = refl
+
+some_of_two : (a b : Option State) → is_some (first_some a b) ≡ (is_some a || is_some b)
+some_of_two None b = refl
+some_of_two (Some x) b = refl
+
+pub first_has : (rs : List (Result NodeEnd NodeError)) → is_some (first_done rs) ≡ list_any is_done rs
+unfolding first_done
+first_has [] = refl
+first_has (r ∷ rs) =
+    some_of_two (done_of r) (first_done rs)
+    ∙ (ap (λ (b : Bool). b || is_some (first_done rs)) (done_has r) ∙ ap (λ (b : Bool). is_done r || b) (first_has rs))
 
 -- ---- partitions
 -- what is noted, and then of the partitions from number p on
@@ -153,3 +179,33 @@ part_kept p k rest own old now lost none h all is =
       starved = first_some old.starved (first_waiting p 0 own);
     } in
     noted_all p k rest own old now none h ∙ (kept ∙ ap (λ (b : Bool). with_lost b p own old) (sym (lost_all rest own lost false none all is)))
+
+-- ---- the same of plain lists
+any_map : {A B : Type 0} (f : A → B) (has : B → Bool) (xs : List A) → list_any (λ x. has (f x)) xs ≡ list_any has (map f xs)
+any_map f has [] = refl
+any_map f has (x ∷ xs) = ap (λ (b : Bool). has (f x) || b) (any_map f has xs)
+
+all_map : {A B : Type 0} (f : A → B) (has : B → Bool) (xs : List A) → list_all (λ x. has (f x)) xs ≡ list_all has (map f xs)
+all_map f has [] = refl
+all_map f has (x ∷ xs) = ap (λ (b : Bool). has (f x) && b) (all_map f has xs)
+
+lost_map : {V : Type 0} (items : V → List (Result NodeEnd NodeError)) (p : ℕ) (xs : List V) → least_lost items p xs ≡ least_lost (λ own. own) p (map items xs)
+unfolding least_lost
+lost_map items p [] = refl
+lost_map items p (x ∷ xs) = ap (λ (o : Option ℕ). if all_lost (items x) then Some p else o) (lost_map items (p + 1) xs)
+
+waiting_map : {V : Type 0} (items : V → List (Result NodeEnd NodeError)) (p : ℕ) (xs : List V) → least_waiting items p xs ≡ least_waiting (λ own. own) p (map items xs)
+unfolding least_waiting
+waiting_map items p [] = refl
+waiting_map items p (x ∷ xs) = ap (first_some (first_waiting p 0 (items x))) (waiting_map items (p + 1) xs)
+
+pub done_map : {V : Type 0} (items : V → List (Result NodeEnd NodeError)) (xs : List V) → each_has_done items xs ≡ each_has_done (λ own. own) (map items xs)
+done_map items xs = all_map items (λ own. list_any is_done own) xs
+
+pub first_map : {V : Type 0} (items : V → List (Result NodeEnd NodeError)) (xs : List V) → first_fault items xs ≡ first_fault (λ own. own) (map items xs)
+first_map items xs = λ i. fault_of (record {
+  lost = lost_map items 0 xs i;
+  full = any_map items (λ own. list_any found_full own) xs i;
+  memory = any_map items (λ own. list_any lacked_memory own) xs i;
+  starved = waiting_map items 0 xs i;
+})

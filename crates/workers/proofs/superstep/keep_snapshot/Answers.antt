@@ -20,4 +20,4 @@ pub returns-in_err-keep-clause-gone : goal.returns-in_err-keep-clause-gone
 returns-in_err-keep-clause-gone g c = on_err c.from_residual-in_err-keep.result (gone_nowhere _ _ _ _ c.in_err-keep.ensures.refused)
 
 pub returns-clause-came : goal.returns-clause-came
-returns-clause-came g c = come_by_call _ _ _ _ _ _ c.in_ok-keep.ensures.ok (ap holding_in c.in_ok-snapshot.ensures.same) (ap holding_in (sym c.shared_snapshot.ensures.unchanged))
+returns-clause-came g c = come_by_call _ _ _ _ _ _ c.in_ok-keep.ensures.ok (ap holding_in c.in_ok-snapshot.ensures.same) (ap holding_in (sym c.shared_snapshot.ensures.unchanged)) tt
