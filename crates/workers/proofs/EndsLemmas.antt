@@ -68,6 +68,9 @@ lost_more r rs all was both h is = ap (λ (b : Bool). b && all_lost rs) is ∙ (
 pub done_more : (r : Result NodeEnd NodeError) (rs all : List (Result NodeEnd NodeError)) (was now : Bool) → (was || list_any is_done (r ∷ rs)) ≡ list_any is_done all → now ≡ (was || is_done r) → (now || list_any is_done rs) ≡ list_any is_done all
 done_more r rs all was now h is = ap (λ (b : Bool). b || list_any is_done rs) is ∙ (sym (or_three was (is_done r) (list_any is_done rs)) ∙ h)
 
+pub done_all : (rest own : List (Result NodeEnd NodeError)) (now : Bool) → rest ≡ [] → (now || list_any is_done rest) ≡ list_any is_done own → now ≡ list_any is_done own
+done_all rest own now none h = sym (or_none now) ∙ (ap (λ (r : List (Result NodeEnd NodeError)). now || list_any is_done r) (sym none) ∙ h)
+
 -- the replica of the first that has
 pub first_more : (r : Result NodeEnd NodeError) (rs all : List (Result NodeEnd NodeError)) (was now : Option State) → first_some was (first_done (r ∷ rs)) ≡ first_done all → now ≡ first_some was (done_of r) →
     first_some now (first_done rs) ≡ first_done all

@@ -65,21 +65,21 @@ AreOwnSteps j p h [] = ⊤
 AreOwnSteps j p h (step ∷ steps) =
     IsOwnStep j h step × AreOwnSteps j p (after_step j p h step) steps
 
--- a node at superstep s drops nothing of that superstep, nor of a later one
-abbrev pub SparesItsLevel : ℕ → Step → Type 0
-SparesItsLevel s (Calls (Post name r)) = ⊤
-SparesItsLevel s (Calls (Fetch name)) = ⊤
-SparesItsLevel s (Calls (Keep c r)) = ⊤
-SparesItsLevel s (Calls (Recall p least c)) = ⊤
-SparesItsLevel s (Calls (Drop below)) = below < s
-SparesItsLevel s Closes = ⊤
-SparesItsLevel s StartsAnew = ⊤
+-- where a node at superstep s drops batches, those of the superstep before its own stay
+abbrev pub SparesLast : ℕ → Step → Type 0
+SparesLast s (Calls (Post name r)) = ⊤
+SparesLast s (Calls (Fetch name)) = ⊤
+SparesLast s (Calls (Keep c r)) = ⊤
+SparesLast s (Calls (Recall p least c)) = ⊤
+SparesLast s (Calls (Drop below)) = below < s
+SparesLast s Closes = ⊤
+SparesLast s StartsAnew = ⊤
 
--- each drop among the steps spares the superstep that the node is at then
-unfoldable pub SpareTheirLevels : Job → ℕ → Holding → List Step → Type 0
-SpareTheirLevels j p h [] = ⊤
-SpareTheirLevels j p h (step ∷ steps) =
-    SparesItsLevel h.superstep step × SpareTheirLevels j p (after_step j p h step) steps
+-- so it is at each of the steps
+unfoldable pub AllSpareLast : Job → ℕ → Holding → List Step → Type 0
+AllSpareLast j p h [] = ⊤
+AllSpareLast j p h (step ∷ steps) =
+    SparesLast h.superstep step × AllSpareLast j p (after_step j p h step) steps
 
 -- the calls among the steps
 unfoldable pub calls_among : List Step → List HistoryEvent
@@ -92,7 +92,7 @@ calls_among (StartsAnew ∷ steps) = calls_among steps
 pub record HasCome (v : Caller) (p : ℕ) (old new : Holding) (w : Caller) : Type 0 where
   pub steps : List Step
   pub own : AreOwnSteps v.seen.job p old steps
-  pub spared : SpareTheirLevels v.seen.job p old steps
+  pub spared : AllSpareLast v.seen.job p old steps
   pub calls : calls_by v.number w.seen ≡ calls_by v.number v.seen ++ calls_among steps
   pub held : after_steps v.seen.job p old steps ≡ new
 
