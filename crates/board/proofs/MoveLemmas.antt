@@ -11,7 +11,7 @@ use Rattle.atomic_table.specs.Table.{State, Me, Step, step, Act, keeps, takes, g
 use Rattle.atomic_table.proofs.Lists.{set_again, set_else, one_turn}
 use Rattle.board.specs.View.{View}
 use Rattle.ball_model.specs.History.{History, Begins, entries_of, calls_by}
-use Rattle.board.specs.Rule.{total, room_of, tickets_of, IsNotOf, FitsLog, IsKeptSafe, IsLocked, with_ticket, at_turn, after_turn, DrewTicket, LookedIfServed, LookedAtServing, WroteLength, RaisedServing}
+use Rattle.board.specs.Rule.{total, room_of, tickets_of, FitsLog, IsKeptSafe, IsLocked, with_ticket, at_turn, after_turn, DrewTicket, LookedIfServed, LookedAtServing, WroteLength, RaisedServing}
 use Rattle.board.specs.Turn.{GoesOnBySeat}
 use Rattle.ball_model.proofs.HistoryLemmas.{begins_self, begins_trans}
 use Rattle.board.proofs.ViewLemmas.{accounted_more, accounted_set, total_set, total_le, each_set, apart_set, set_at, not_of}

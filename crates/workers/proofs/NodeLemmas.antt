@@ -132,14 +132,14 @@ pub never_ran : (j : Job) (entries p : ℕ) (orders : NodeOrders) → p < j.plan
 never_ran j entries p orders below =
     let v : Caller = record { number = 0; limit = 1; seen = start_history j } in
     let legal : IsCaller v = record { legal = tt; fits = omega arith } in
-    let run : HasRun j 1 p orders (Err fault.Memory) = has_run v v j 1 p orders (Err fault.Memory) refl refl below refl (extends_self v legal) (out_of_memory v p orders.lose fault.Memory refl) in
+    let ends : EndsAs v p orders.lose (Err fault.Memory) v = out_of_memory v p orders.lose fault.Memory refl in
     record {
       first = v;
       last = v;
-      job = run.job;
-      start = run.start;
-      seen = run.seen;
-      ends = run.ends;
-      made = run.made;
+      job = refl;
+      start = refl;
+      seen = extends_self v legal;
+      ends = ends;
+      made = paths_are_of_nodes v v p [] below refl ends.path ([], refl);
       full = λ same. absurd (cc);
     }

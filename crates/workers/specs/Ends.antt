@@ -137,6 +137,11 @@ fault_of f = fault_by f.lost f.full f.memory f.starved
 abbrev pub first_fault : {V : Type 0} → (V → List (Result NodeEnd NodeError)) → List V → JobError
 first_fault items all = fault_of (faults_in items all)
 
--- the same, where some partition has no node that has reached the end
+-- none where all is done, else that fault
+abbrev pub fault_unless : Bool → JobError → Option JobError
+fault_unless true e = None
+fault_unless false e = Some e
+
+-- the first fault of all nodes, where some partition has no node that has reached the end
 abbrev pub fault_in : {V : Type 0} → (V → List (Result NodeEnd NodeError)) → List V → Option JobError
-fault_in items all = if each_has_done items all then None else Some (first_fault items all)
+fault_in items all = fault_unless (each_has_done items all) (first_fault items all)

@@ -201,11 +201,7 @@ fn fault_in(ends: &[Vec<NodeResult>]) -> Option<JobError>
         complete = note_part(&mut faults, p, own) && complete;
         p += 1;
     }
-    if complete {
-        None
-    } else {
-        Some(faults.first())
-    }
+    if complete { None } else { Some(faults.first()) }
 }
 
 // The replica of the first of two nodes that has reached the end.

@@ -132,7 +132,7 @@ fn start_node<'s, 'a: 's, X, R: AllocGlobal + Threads + Wait + Sync, G: Gate + S
         requires node { duty.node.part < seat.caller.seen.job.plan.parts }
         requires part { part ≡ part_of seat.caller.seen.job duty.node.part }
         ensures orders { KeepsItsOrders seat.caller.seen.job duty.node.part duty.orders result }
-        ensures ran { HasRun seat.caller.seen.job board.now.limit duty.node.part duty.orders
+        ensures ran { HasRun seat.caller.seen.job board.entry.now.limit duty.node.part duty.orders
             result }
     { run_at(rt, board, seat, gate, running, part, duty) };
     let child = scope.spawn_with(assigned, work).ok();
