@@ -1,11 +1,15 @@
 -- What is noted of the ends of nodes, one after the other, is what there is to note of all.
-use Rattle.std.proofs.Common.{◌≡◌, ℕ, ◌+◌, Bool, true, false, ◌||◌, ◌&&◌, if◌then◌else◌, List, [], ◌∷◌, refl, sym, ap, ◌∙◌}
-use Rattle.std.specs.Prelude.{Option, None, Some, Result}
-use Rattle.std.specs.List.{list_any}
+use Rattle.std.proofs.Common.{◌≡◌, ℕ, ◌+◌, Bool, true, false, ◌||◌, ◌&&◌, if◌then◌else◌, List, [], ◌∷◌, map, refl, sym, ap, ◌∙◌, subst}
+use Rattle.std.specs.Prelude.{Option, None, Some, Result, Ok, Err, is_some}
+use Rattle.std.specs.List.{list_all, list_any}
+use Rattle.std.proofs.lemmas.Bool.{and_parts}
+use Rattle.ball_model.specs.State.{State}
 use Rattle.workers.specs.declared.ends.Faults.{Faults}
+use Rattle.workers.specs.declared.ends.JobError.{JobError}
 use Rattle.workers.specs.declared.node.NodeEnd.{NodeEnd}
+use Rattle.workers.specs.declared.node.NodeEnd.TheVariants as ends
 use Rattle.workers.specs.declared.node.NodeError.{NodeError}
-use Rattle.workers.specs.Ends.{all_lost, each_has_done, faults_in, first_some, first_waiting, found_full, is_done, is_lost, lacked_memory, least_lost, least_waiting, no_faults, waited, with_end, with_part}
+use Rattle.workers.specs.Ends.{all_lost, done_of, each_has_done, fault_in, fault_of, fault_unless, faults_in, first_done, first_fault, first_some, first_waiting, found_full, is_done, is_lost, lacked_memory, least_lost, least_waiting, no_faults, waited, with_end, with_part}
 
 -- ---- tests and options, one behind another
 or_three : (a b c : Bool) → (a || (b || c)) ≡ ((a || b) || c)
@@ -15,6 +19,12 @@ or_three false b c = refl
 or_none : (a : Bool) → (a || false) ≡ a
 or_none true = refl
 or_none false = refl
+
+or_swap : (a b : Bool) → (a || b) ≡ (b || a)
+or_swap true true = refl
+or_swap true false = refl
+or_swap false true = refl
+or_swap false false = refl
 
 and_three : (a b c : Bool) → (a && (b && c)) ≡ ((b && a) && c)
 and_three true true c = refl
@@ -63,11 +73,38 @@ pub lost_more : (r : Result NodeEnd NodeError) (rs all : List (Result NodeEnd No
 lost_more r rs all was both h is = ap (λ (b : Bool). b && all_lost rs) is ∙ (sym (and_three was (is_lost r) (all_lost rs)) ∙ h)
 
 -- whether one has reached the end
-pub done_more : (r : Result NodeEnd NodeError) (rs all : List (Result NodeEnd NodeError)) (was now : Bool) → (was || list_any is_done (r ∷ rs)) ≡ list_any is_done all → now ≡ (was || is_done r) → (now || list_any is_done rs) ≡ list_any is_done all
-done_more r rs all was now h is = ap (λ (b : Bool). b || list_any is_done rs) is ∙ (sym (or_three was (is_done r) (list_any is_done rs)) ∙ h)
+pub done_more : (r : Result NodeEnd NodeError) (rs all : List (Result NodeEnd NodeError)) (was now : Bool) → (was || list_any is_done (r ∷ rs)) ≡ list_any is_done all → now ≡ (is_done r || was) → (now || list_any is_done rs) ≡ list_any is_done all
+done_more r rs all was now h is = ap (λ (b : Bool). b || list_any is_done rs) (is ∙ or_swap (is_done r) was) ∙ (sym (or_three was (is_done r) (list_any is_done rs)) ∙ h)
 
 pub done_all : (rest own : List (Result NodeEnd NodeError)) (now : Bool) → rest ≡ [] → (now || list_any is_done rest) ≡ list_any is_done own → now ≡ list_any is_done own
 done_all rest own now none h = sym (or_none now) ∙ (ap (λ (r : List (Result NodeEnd NodeError)). now || list_any is_done r) (sym none) ∙ h)
+
+-- the replica of the first that has
+pub first_more : (r : Result NodeEnd NodeError) (rs all : List (Result NodeEnd NodeError)) (was now : Option State) → first_some was (first_done (r ∷ rs)) ≡ first_done all → now ≡ first_some was (done_of r) →
+    first_some now (first_done rs) ≡ first_done all
+unfolding first_done
+first_more r rs all was now h is = ap (λ (o : Option State). first_some o (first_done rs)) is ∙ (sym (first_three was (done_of r) (first_done rs)) ∙ h)
+
+pub first_all : (rest all : List (Result NodeEnd NodeError)) (now : Option State) → rest ≡ [] → first_some now (first_done rest) ≡ first_done all → now ≡ first_done all
+unfolding first_done
+first_all rest all now none h = sym (first_none now) ∙ (ap (λ (r : List (Result NodeEnd NodeError)). first_some now (first_done r)) (sym none) ∙ h)
+
+done_has : (r : Result NodeEnd NodeError) → is_some (done_of r) ≡ is_done r
+done_has (Ok (ends.Done v)) = refl
+done_has (Ok (ends.Lost s)) = refl
+done_has (Ok (ends.Starved s q)) = refl
+done_has (Err e) = refl
+
+some_of_two : (a b : Option State) → is_some (first_some a b) ≡ (is_some a || is_some b)
+some_of_two None b = refl
+some_of_two (Some x) b = refl
+
+pub first_has : (rs : List (Result NodeEnd NodeError)) → is_some (first_done rs) ≡ list_any is_done rs
+unfolding first_done
+first_has [] = refl
+first_has (r ∷ rs) =
+    some_of_two (done_of r) (first_done rs)
+    ∙ (ap (λ (b : Bool). b || is_some (first_done rs)) (done_has r) ∙ ap (λ (b : Bool). is_done r || b) (first_has rs))
 
 -- ---- partitions
 -- what is noted, and then of the partitions from number p on
@@ -121,6 +158,16 @@ complete_more items own rest all was kept both h has is =
 pub complete_end : {V : Type 0} (items : V → List (Result NodeEnd NodeError)) (rest all : List V) (complete : Bool) → rest ≡ [] → (complete && each_has_done items rest) ≡ each_has_done items all → complete ≡ false → each_has_done items all ≡ false
 complete_end items rest all complete none h is = sym h ∙ (ap (λ r. complete && each_has_done items r) none ∙ ap (λ (b : Bool). b && true) is)
 
+-- where a partition has such a node, its first one is found
+pub here_done : {V : Type 0} (items : V → List (Result NodeEnd NodeError)) (own : V) (rest all : List V) → all ≡ own ∷ rest → each_has_done items all ≡ true → (list_any is_done (items own) ≡ true) × (each_has_done items rest ≡ true)
+here_done items own rest all next h = and_parts (list_any is_done (items own)) (each_has_done items rest) (subst (λ r. each_has_done items r ≡ true) next h)
+
+pub none_has : (rs : List (Result NodeEnd NodeError)) → first_done rs ≡ None → list_any is_done rs ≡ true → ⊥
+none_has rs none some = let same : false ≡ true = sym (ap (λ (o : Option State). is_some o) none) ∙ (first_has rs ∙ some) in absurd (cc)
+
+pub fault_told : {V : Type 0} (items : V → List (Result NodeEnd NodeError)) (xs : List V) (e : JobError) → each_has_done items xs ≡ false → e ≡ first_fault items xs → Some e ≡ fault_in items xs
+fault_told items xs e lacking is = ap (λ (x : JobError). Some x) is ∙ sym (ap (λ (b : Bool). fault_unless b (first_fault items xs)) lacking)
+
 -- ---- a partition whose nodes are all noted
 noted_all : (p k : ℕ) (rest own : List (Result NodeEnd NodeError)) (old now : Faults) → rest ≡ [] → with_rest p k rest now ≡ with_rest p 0 own old → now ≡ with_rest p 0 own old
 noted_all p k rest own old now none h = sym (rest_none p k now) ∙ (ap (λ (r : List (Result NodeEnd NodeError)). with_rest p k r now) (sym none) ∙ h)
@@ -153,3 +200,33 @@ part_kept p k rest own old now lost none h all is =
       starved = first_some old.starved (first_waiting p 0 own);
     } in
     noted_all p k rest own old now none h ∙ (kept ∙ ap (λ (b : Bool). with_lost b p own old) (sym (lost_all rest own lost false none all is)))
+
+-- ---- the same of plain lists
+any_map : {A B : Type 0} (f : A → B) (has : B → Bool) (xs : List A) → list_any (λ x. has (f x)) xs ≡ list_any has (map f xs)
+any_map f has [] = refl
+any_map f has (x ∷ xs) = ap (λ (b : Bool). has (f x) || b) (any_map f has xs)
+
+all_map : {A B : Type 0} (f : A → B) (has : B → Bool) (xs : List A) → list_all (λ x. has (f x)) xs ≡ list_all has (map f xs)
+all_map f has [] = refl
+all_map f has (x ∷ xs) = ap (λ (b : Bool). has (f x) && b) (all_map f has xs)
+
+lost_map : {V : Type 0} (items : V → List (Result NodeEnd NodeError)) (p : ℕ) (xs : List V) → least_lost items p xs ≡ least_lost (λ own. own) p (map items xs)
+unfolding least_lost
+lost_map items p [] = refl
+lost_map items p (x ∷ xs) = ap (λ (o : Option ℕ). if all_lost (items x) then Some p else o) (lost_map items (p + 1) xs)
+
+waiting_map : {V : Type 0} (items : V → List (Result NodeEnd NodeError)) (p : ℕ) (xs : List V) → least_waiting items p xs ≡ least_waiting (λ own. own) p (map items xs)
+unfolding least_waiting
+waiting_map items p [] = refl
+waiting_map items p (x ∷ xs) = ap (first_some (first_waiting p 0 (items x))) (waiting_map items (p + 1) xs)
+
+pub done_map : {V : Type 0} (items : V → List (Result NodeEnd NodeError)) (xs : List V) → each_has_done items xs ≡ each_has_done (λ own. own) (map items xs)
+done_map items xs = all_map items (λ own. list_any is_done own) xs
+
+pub first_map : {V : Type 0} (items : V → List (Result NodeEnd NodeError)) (xs : List V) → first_fault items xs ≡ first_fault (λ own. own) (map items xs)
+first_map items xs = λ i. fault_of (record {
+  lost = lost_map items 0 xs i;
+  full = any_map items (λ own. list_any found_full own) xs i;
+  memory = any_map items (λ own. list_any lacked_memory own) xs i;
+  starved = waiting_map items 0 xs i;
+})

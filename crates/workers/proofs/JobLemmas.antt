@@ -1,6 +1,6 @@
 -- The nodes of a job: their threads, their ends, and what is put together of these.
-use Rattle.std.proofs.Common.{◌≡◌, ◌<◌, ◌+◌, ◌-◌, ℕ, zero, suc, List, [], ◌∷◌, ◌++◌, length, Bool, true, ◌&&◌, refl, sym, ap, ◌∙◌, subst, arith, inl, inr, slice_index_or, length-append}
-use Rattle.std.specs.Prelude.{Option, None, Some, IfSome, IfOk, is_some, Result}
+use Rattle.std.proofs.Common.{◌≡◌, ◌≢◌, ◌<◌, ◌+◌, ◌-◌, ℕ, zero, suc, List, [], ◌∷◌, ◌++◌, length, map, Bool, true, false, ◌&&◌, refl, sym, ap, ◌∙◌, subst, arith, inl, inr, slice_index_or, length-append}
+use Rattle.std.specs.Prelude.{Option, None, Some, IfSome, IfOk, IfErr, is_some, Result, Ok, Err}
 use Rattle.std.proofs.lemmas.Bool.{and_parts, cases_eq}
 use Rattle.ball_model.specs.Caller.{Caller, IsCaller}
 use Rattle.ball_model.specs.Job.{Job}
@@ -8,13 +8,18 @@ use Rattle.ball_model.specs.State.{State}
 use Rattle.board.specs.Rule.{share}
 use Rattle.board.specs.Seats.{BoardView, SeatView, SharesNumbers}
 use Rattle.workers.specs.declared.ends.Faults.{Faults}
+use Rattle.workers.specs.declared.ends.JobError.{JobError}
+use Rattle.workers.specs.declared.ends.JobError.TheVariants as job
 use Rattle.workers.specs.declared.node.NodeEnd.{NodeEnd}
+use Rattle.workers.specs.declared.node.NodeEnd.TheVariants as ends
 use Rattle.workers.specs.declared.node.NodeError.{NodeError}
 use Rattle.workers.specs.declared.options.RunOptions.{RunOptions}
 use Rattle.workers.specs.declared.assignment.Assignment.{Assignment}
 use Rattle.workers.specs.Node.{IfDone, IsDone}
 use Rattle.workers.specs.Options.{order_for, orders_for}
-use Rattle.workers.specs.Job.{AreEnds, AreNoted, EachAt, HasSplit, IsAssigned, IsPartEnd, IsPartStarted, KeepsItsOrders}
+use Rattle.workers.specs.Ends.{done_of, each_has_done, first_done, first_fault, first_some}
+use Rattle.workers.specs.Job.{AreDone, AreEnds, AreNoted, EachAt, HasRun, HasSplit, IsAssigned, IsFirstFault, IsPartEnd, IsPartStarted, KeepsItsOrders}
+use Rattle.workers.proofs.EndsLemmas.{done_map, first_map}
 
 -- ---- lists whose elements have what their places say
 pub each_push : {A : Type 0} (has : ℕ → A → Type 0) (k : ℕ) (xs : List A) (x : A) → EachAt has k xs → has (k + length xs) x → EachAt has k (xs ++ x ∷ [])
@@ -28,18 +33,24 @@ each_is has k (y ∷ ys) (suc i) d h lt = subst (λ (n : ℕ). has n (slice_inde
 
 -- ---- threads that are joined
 pub record Joining {H : Type 0} (assigned : H → Assignment) (j : Job) (o : RunOptions) (p : ℕ) (rest : List (Option H)) (ends : List (Result NodeEnd NodeError)) : Type 0 where
+  pub below : p < j.plan.parts
   pub count : length ends + length rest ≡ o.replicas
   pub left : EachAt (λ k child. IfSome child (λ h. IsAssigned j o p k (assigned h))) (length ends) rest
   pub given : EachAt (λ k. KeepsItsOrders j p (orders_for o p k)) 0 ends
+  pub ran : EachAt (λ k. HasRun j o.entries p (orders_for o p k)) 0 ends
 
 pub joining_more : {H : Type 0} (assigned : H → Assignment) (j : Job) (o : RunOptions) (p : ℕ) (child : Option H) (rest : List (Option H)) (ends : List (Result NodeEnd NodeError)) (r : Result NodeEnd NodeError) → Joining assigned j o p (child ∷ rest) ends →
-    ((k : ℕ) → IfSome child (λ h. IsAssigned j o p k (assigned h)) → KeepsItsOrders j p (orders_for o p k) r) → Joining assigned j o p rest (ends ++ r ∷ [])
-joining_more assigned j o p child rest ends r h end =
+    ((k : ℕ) → IfSome child (λ h. IsAssigned j o p k (assigned h)) → KeepsItsOrders j p (orders_for o p k) r) →
+    ((k : ℕ) → p < j.plan.parts → IfSome child (λ h. IsAssigned j o p k (assigned h)) → HasRun j o.entries p (orders_for o p k) r) → Joining assigned j o p rest (ends ++ r ∷ [])
+joining_more assigned j o p child rest ends r h end ran =
     let more : length (ends ++ r ∷ []) ≡ length ends + 1 = length-append ends (r ∷ []) in
+    let here : length ends ≡ 0 + length ends = omega arith in
     record {
+      below = h.below;
       count = omega (arith, more, h.count);
       left = subst (λ (n : ℕ). EachAt (λ k child. IfSome child (λ h. IsAssigned j o p k (assigned h))) n rest) (sym more) h.left.1;
-      given = each_push (λ k. KeepsItsOrders j p (orders_for o p k)) 0 ends r h.given (subst (λ (k : ℕ). KeepsItsOrders j p (orders_for o p k) r) (let e : length ends ≡ 0 + length ends = omega arith in e) (end (length ends) h.left.0));
+      given = each_push (λ k. KeepsItsOrders j p (orders_for o p k)) 0 ends r h.given (subst (λ (k : ℕ). KeepsItsOrders j p (orders_for o p k) r) here (end (length ends) h.left.0));
+      ran = each_push (λ k. HasRun j o.entries p (orders_for o p k)) 0 ends r h.ran (subst (λ (k : ℕ). HasRun j o.entries p (orders_for o p k) r) here (ran (length ends) h.below h.left.0));
     }
 
 pub record JoiningAll {H V W : Type 0} (assigned : H → Assignment) (items : V → List (Option H)) (own : W → List (Result NodeEnd NodeError)) (j : Job) (o : RunOptions) (rest : List V) (ends : List W) : Type 0 where
@@ -58,20 +69,17 @@ all_more assigned items own j o v rest ends w h end =
     }
 
 -- ---- ends that are put together
-pub record PartSoFar (j : Job) (o : RunOptions) (p k : ℕ) (rest : List (Result NodeEnd NodeError)) (old now : Faults) (done : Option State) (all_lost : Bool) : Type 0 where
+pub record PartSoFar (j : Job) (o : RunOptions) (p k : ℕ) (rest : List (Result NodeEnd NodeError)) (old now : Faults) (all_lost : Bool) : Type 0 where
   pub each : EachAt (λ i. KeepsItsOrders j p (orders_for o p i)) k rest
-  pub found : IfSome done (IsDone j p)
   pub noted : AreNoted j.plan.parts o old → AreNoted j.plan.parts o now
   pub ordered : all_lost ≡ true → (i : ℕ) → i < k → is_some (order_for p i o.lose.items) ≡ true
 
-pub part_so_far_more : (j : Job) (o : RunOptions) (p k : ℕ) (r : Result NodeEnd NodeError) (rest : List (Result NodeEnd NodeError)) (old now next : Faults) (done then : Option State) (was all_lost both : Bool) → PartSoFar j o p k (r ∷ rest) old now done all_lost →
+pub part_so_far_more : (j : Job) (o : RunOptions) (p k : ℕ) (r : Result NodeEnd NodeError) (rest : List (Result NodeEnd NodeError)) (old now next : Faults) (was all_lost both : Bool) → PartSoFar j o p k (r ∷ rest) old now all_lost →
     (KeepsItsOrders j p (orders_for o p k) r → AreNoted j.plan.parts o now → AreNoted j.plan.parts o next) →
-    (KeepsItsOrders j p (orders_for o p k) r → was ≡ true → is_some (order_for p k o.lose.items) ≡ true) →
-    (IfSome done (IsDone j p) → IfOk r (λ e. IfDone e (IsDone j p)) → IfSome then (IsDone j p)) → both ≡ (was && all_lost) →
-    PartSoFar j o p (k + 1) rest old next then both
-part_so_far_more j o p k r rest old now next done then was all_lost both h noted lost first is = record {
+    (KeepsItsOrders j p (orders_for o p k) r → was ≡ true → is_some (order_for p k o.lose.items) ≡ true) → both ≡ (was && all_lost) →
+    PartSoFar j o p (k + 1) rest old next both
+part_so_far_more j o p k r rest old now next was all_lost both h noted lost is = record {
   each = h.each.1;
-  found = first h.found h.each.0.done;
   noted = λ n. noted h.each.0 (h.noted n);
   ordered = λ b i lt.
       let two = and_parts was all_lost (sym is ∙ b) in
@@ -81,30 +89,82 @@ part_so_far_more j o p k r rest old now next done then was all_lost both h noted
       ];
 }
 
-pub record AllSoFar {V : Type 0} (items : V → List (Result NodeEnd NodeError)) (j : Job) (o : RunOptions) (p : ℕ) (rest : List V) (f : Faults) (done : List State) (complete : Bool) : Type 0 where
+pub record AllSoFar {V : Type 0} (items : V → List (Result NodeEnd NodeError)) (j : Job) (o : RunOptions) (p : ℕ) (rest : List V) (f : Faults) : Type 0 where
   pub count : p + length rest ≡ j.plan.parts
   pub each : EachAt (λ q own. IsPartEnd j o q (items own)) p rest
   pub noted : AreNoted j.plan.parts o f
-  pub length_is : complete ≡ true → length done ≡ p
-  pub have : complete ≡ true → EachAt (IsDone j) 0 done
 
-pub all_so_far_start : {V : Type 0} (items : V → List (Result NodeEnd NodeError)) (j : Job) (o : RunOptions) (ends : List V) (f : Faults) → AreEnds items j o ends → AreNoted j.plan.parts o f → AllSoFar items j o 0 ends f [] true
-all_so_far_start items j o ends f h n = record { count = (let e : 0 + length ends ≡ j.plan.parts = omega (arith, h.count) in e); each = h.each; noted = n; length_is = λ _. refl; have = λ _. tt }
+pub all_so_far_start : {V : Type 0} (items : V → List (Result NodeEnd NodeError)) (j : Job) (o : RunOptions) (ends : List V) (f : Faults) → AreEnds items j o ends → AreNoted j.plan.parts o f → AllSoFar items j o 0 ends f
+all_so_far_start items j o ends f h n = record { count = (let e : 0 + length ends ≡ j.plan.parts = omega (arith, h.count) in e); each = h.each; noted = n }
 
-pub all_so_far_more : {V : Type 0} (items : V → List (Result NodeEnd NodeError)) (j : Job) (o : RunOptions) (p : ℕ) (own : V) (rest : List V) (now next : Faults) (done then : List State) (found : Option State) (kept complete both : Bool) → AllSoFar items j o p (own ∷ rest) now done complete →
-    (IsPartEnd j o p (items own) → p < j.plan.parts → AreNoted j.plan.parts o now → AreNoted j.plan.parts o next) → (IsPartEnd j o p (items own) → IfSome found (IsDone j p)) → (kept ≡ true → length then ≡ length done + 1) →
-    (IfSome found (IsDone j (length done)) → EachAt (IsDone j) 0 done → EachAt (IsDone j) 0 then) → both ≡ (kept && complete) →
-    AllSoFar items j o (p + 1) rest next then both
-all_so_far_more items j o p own rest now next done then found kept complete both h noted one count each is = record {
+pub all_so_far_more : {V : Type 0} (items : V → List (Result NodeEnd NodeError)) (j : Job) (o : RunOptions) (p : ℕ) (own : V) (rest : List V) (now next : Faults) → AllSoFar items j o p (own ∷ rest) now →
+    (IsPartEnd j o p (items own) → p < j.plan.parts → AreNoted j.plan.parts o now → AreNoted j.plan.parts o next) → AllSoFar items j o (p + 1) rest next
+all_so_far_more items j o p own rest now next h noted = record {
   count = omega (arith, h.count);
   each = h.each.1;
   noted = noted h.each.0 (omega (arith, h.count)) h.noted;
-  length_is = λ b.
-      let two = and_parts kept complete (sym is ∙ b) in
-      count two.0 ∙ ap (λ (k : ℕ). k + 1) (h.length_is two.1);
-  have = λ b.
-      let two = and_parts kept complete (sym is ∙ b) in
-      each (subst (λ (k : ℕ). IfSome found (IsDone j k)) (sym (h.length_is two.1)) (one h.each.0)) (h.have two.1);
+}
+
+-- the replica of the first node that is done stands for the end of the run
+done_of_two : (j : Job) (p : ℕ) (r : Result NodeEnd NodeError) (other : Option State) → IfOk r (λ e. IfDone e (IsDone j p)) → IfSome other (IsDone j p) → IfSome (first_some (done_of r) other) (IsDone j p)
+done_of_two j p (Ok (ends.Done v)) other one more = one
+done_of_two j p (Ok (ends.Lost s)) other one more = more
+done_of_two j p (Ok (ends.Starved s q)) other one more = more
+done_of_two j p (Err e) other one more = more
+
+first_is_done : (j : Job) (o : RunOptions) (p k : ℕ) (rs : List (Result NodeEnd NodeError)) → EachAt (λ i. KeepsItsOrders j p (orders_for o p i)) k rs → IfSome (first_done rs) (IsDone j p)
+unfolding first_done
+first_is_done j o p k [] h = tt
+first_is_done j o p k (r ∷ rs) h = done_of_two j p r (first_done rs) h.0.done (first_is_done j o p (k + 1) rs h.1)
+
+pub record CollectSoFar {V : Type 0} (items : V → List (Result NodeEnd NodeError)) (j : Job) (o : RunOptions) (rest : List V) (done : List State) : Type 0 where
+  pub count : length done + length rest ≡ j.plan.parts
+  pub each : EachAt (λ q own. IsPartEnd j o q (items own)) (length done) rest
+  pub have : EachAt (IsDone j) 0 done
+
+pub collect_start : {V : Type 0} (items : V → List (Result NodeEnd NodeError)) (j : Job) (o : RunOptions) (rest all : List V) (done : List State) → rest ≡ all → done ≡ [] → AreEnds items j o all → CollectSoFar items j o rest done
+collect_start items j o rest all done same none h =
+    subst (λ (d : List State). CollectSoFar items j o rest d) (sym none)
+    (subst (λ xs. CollectSoFar items j o xs []) (sym same) (record { count = (let e : 0 + length all ≡ j.plan.parts = omega (arith, h.count) in e); each = h.each; have = tt }))
+
+pub collect_more : {V : Type 0} (items : V → List (Result NodeEnd NodeError)) (j : Job) (o : RunOptions) (own : V) (rest : List V) (done then : List State) (r s : State) → CollectSoFar items j o (own ∷ rest) done →
+    Some r ≡ first_done (items own) → s ≡ r → then ≡ done ++ s ∷ [] → CollectSoFar items j o rest then
+collect_more items j o own rest done then r s h is same pushed =
+    let more : length (done ++ s ∷ []) ≡ length done + 1 = length-append done (s ∷ []) in
+    let one : IsDone j (length done) r = subst (λ (x : Option State). IfSome x (IsDone j (length done))) (sym is) (first_is_done j o (length done) 0 (items own) h.each.0.each) in
+    let last : IsDone j (0 + length done) s = subst (λ (n : ℕ). IsDone j n s) (let e : length done ≡ 0 + length done = omega arith in e) (subst (IsDone j (length done)) (sym same) one) in
+    subst (λ (d : List State). CollectSoFar items j o rest d) (sym pushed)
+    (record {
+      count = omega (arith, more, h.count);
+      each = subst (λ (n : ℕ). EachAt (λ q w. IsPartEnd j o q (items w)) n rest) (sym more) h.each.1;
+      have = each_push (IsDone j) 0 done s h.have last;
+    })
+
+pub collect_end : {V : Type 0} (items : V → List (Result NodeEnd NodeError)) (j : Job) (o : RunOptions) (rest : List V) (done : List State) → rest ≡ [] → CollectSoFar items j o rest done → AreDone j done
+collect_end items j o rest done none h =
+    let count = ap length none in
+    record { count = omega (arith, count, h.count); each = h.have }
+
+-- ---- the first fault of the ends
+each_map : {A B : Type 0} (f : A → B) (has : ℕ → B → Type 0) (k : ℕ) (xs : List A) → EachAt (λ n x. has n (f x)) k xs → EachAt has k (map f xs)
+each_map f has k [] h = tt
+each_map f has k (x ∷ xs) h = (h.0, each_map f has (k + 1) xs h.1)
+
+length_map : {A B : Type 0} (f : A → B) (xs : List A) → length (map f xs) ≡ length xs
+length_map f [] = refl
+length_map f (x ∷ xs) = ap suc (length_map f xs)
+
+ends_map : {V : Type 0} (items : V → List (Result NodeEnd NodeError)) (j : Job) (o : RunOptions) (xs : List V) → AreEnds items j o xs → AreEnds (λ own. own) j o (map items xs)
+ends_map items j o xs h = record { count = length_map items xs ∙ h.count; each = each_map items (λ p own. IsPartEnd j o p own) 0 xs h.each }
+
+pub first_of_ends : {T V : Type 0} (items : V → List (Result NodeEnd NodeError)) (j : Job) (o : RunOptions) (xs : List V) (r : Result T JobError) → AreEnds items j o xs →
+    IfErr r (λ e. e ≢ job.Memory → e ≡ first_fault items xs) → IfErr r (λ e. e ≢ job.Memory → each_has_done items xs ≡ false) → IfErr r (λ e. e ≢ job.Memory → IsFirstFault j o e)
+first_of_ends items j o xs (Ok x) all first lacking = tt
+first_of_ends items j o xs (Err e) all first lacking = λ other. record {
+  ends = map items xs;
+  all = ends_map items j o xs all;
+  lacking = sym (done_map items xs) ∙ lacking other;
+  first = first other ∙ first_map items xs;
 }
 
 -- ---- threads that are started

@@ -1,18 +1,22 @@
 -- How a node ends, by the fate of its replica.
-use Rattle.std.proofs.Common.{◌≡◌, ◌≢◌, ◌∙◌, ℕ, ◌<◌, arith, sym}
-use Rattle.std.specs.Prelude.{Option, Result, Ok, Err, IfOk, IfErr, OnOk, OnErr}
-use Rattle.ball_model.specs.Caller.{Caller, IsFull}
+use Rattle.std.proofs.Common.{◌≡◌, ◌≢◌, ◌∙◌, ℕ, ◌<◌, [], append-nil, arith, refl, subst, sym}
+use Rattle.std.specs.Prelude.{Option, None, Result, Ok, Err, IfOk, IfErr, OnOk, OnErr}
+use Rattle.ball_model.specs.Caller.{Caller, Extends, IsCaller, IsFull}
 use Rattle.ball_model.specs.Held.{start_holding}
-use Rattle.ball_model.specs.History.{holding_in}
+use Rattle.ball_model.specs.History.{calls_by, entries_of, holding_in, start_history}
+use Rattle.ball_model.specs.Job.{Job}
 use Rattle.ball_model.specs.State.{State}
 use Rattle.workers.specs.declared.node.Fate.{Fate}
 use Rattle.workers.specs.declared.node.Fate.TheVariants as fate
 use Rattle.workers.specs.declared.node.NodeEnd.{NodeEnd}
 use Rattle.workers.specs.declared.node.NodeError.{NodeError}
 use Rattle.workers.specs.declared.node.NodeError.TheVariants as fault
-use Rattle.workers.specs.Tie.{HasCome, HasGone}
+use Rattle.workers.specs.declared.node.NodeOrders.{NodeOrders}
+use Rattle.workers.specs.Job.{HasRun, KeepsItsOrders}
+use Rattle.workers.specs.Tie.{AreOfNode, HasCome, HasGone}
 use Rattle.workers.specs.Superstep.{EndsAs, IsFate, end_with}
-use Rattle.workers.proofs.PathLemmas.{gone}
+use Rattle.workers.proofs.PathLemmas.{gone, gone_nowhere, paths_are_of_nodes}
+use Rattle.workers.proofs.SeenLemmas.{extends_self}
 
 pub ended : (v : Caller) (p : ℕ) (lose : Option ℕ) (r : State) (f : Result Fate NodeError) (w : Caller) → p < v.seen.job.plan.parts →
     IfOk f (λ x. IsFate v p lose r x w) →
@@ -24,6 +28,7 @@ ended v p lose r (Ok fate.Done) w below is came left full = record {
   done = is.1.0;
   told = is.0;
   lost = tt;
+  reached = tt;
   spared = is.1.1;
   starved = tt;
   starved_told = tt;
@@ -36,7 +41,8 @@ ended v p lose r (Ok fate.Done) w below is came left full = record {
 ended v p lose r (Ok (fate.Lost s)) w below is came left full = record {
   done = tt;
   told = tt;
-  lost = is;
+  lost = is.0;
+  reached = record { held = holding_in r; come = came; superstep = sym is.1 };
   spared = tt;
   starved = tt;
   starved_told = tt;
@@ -50,6 +56,7 @@ ended v p lose r (Ok (fate.Starved s q)) w below is came left full = record {
   done = tt;
   told = tt;
   lost = tt;
+  reached = tt;
   spared = tt;
   starved = is.1.missing;
   starved_told = is.0;
@@ -63,6 +70,7 @@ ended v p lose r (Err e) w below is came left full = record {
   done = tt;
   told = tt;
   lost = tt;
+  reached = tt;
   spared = tt;
   starved = tt;
   starved_told = tt;
@@ -79,3 +87,59 @@ end_fits (Ok fate.Done) r e is fits full = let same = sym is ∙ full in absurd 
 end_fits (Ok (fate.Lost s)) r e is fits full = let same = sym is ∙ full in absurd (cc)
 end_fits (Ok (fate.Starved s q)) r e is fits full = let same = sym is ∙ full in absurd (cc)
 end_fits (Err x) r e is fits full = let same : Err x ≡ Err fault.BookFull = sym is ∙ full in fits (cc)
+
+-- where memory was refused before the first call
+pub out_of_memory : (v : Caller) (p : ℕ) (lose : Option ℕ) (e : NodeError) → e ≡ fault.Memory → EndsAs v p lose (Err e) v
+out_of_memory v p lose e is = record {
+  done = tt;
+  told = tt;
+  lost = tt;
+  reached = tt;
+  spared = tt;
+  starved = tt;
+  starved_told = tt;
+  source = tt;
+  path = gone_nowhere v v p (start_holding v.seen.job.plan p) refl;
+  came = tt;
+  full = λ full. let same = sym is ∙ full in absurd (cc);
+  alone = λ one. tt;
+}
+
+-- ---- a run of a node, by what it says at its end
+pub keeps_orders : (v w : Caller) (p : ℕ) (orders : NodeOrders) (r : Result NodeEnd NodeError) → EndsAs v p orders.lose r w →
+    (v.seen.job.plan.parts ≡ 1 → orders.keep ≡ 0 → orders.restart ≡ None → r ≢ Err fault.BookFull) → KeepsItsOrders v.seen.job p orders r
+keeps_orders v w p orders r ends fits = record { done = ends.done; lost = ends.lost; alone = ends.alone; alone_fits = fits }
+
+has_filled : (limit : ℕ) (w : Caller) (r : Result NodeEnd NodeError) → w.limit ≡ limit → IfErr r (λ e. e ≡ fault.BookFull → IsFull w) → IfErr r (λ e. e ≡ fault.BookFull → entries_of w.seen ≡ limit)
+has_filled limit w (Ok end) is full = tt
+has_filled limit w (Err e) is full = λ same. full same ∙ is
+
+pub has_run : (v w : Caller) (j : Job) (limit p : ℕ) (orders : NodeOrders) (r : Result NodeEnd NodeError) → v.seen.job ≡ j → v.limit ≡ limit → p < v.seen.job.plan.parts → calls_by v.number v.seen ≡ [] → Extends v w →
+    EndsAs v p orders.lose r w → HasRun j limit p orders r
+has_run v w j limit p orders r job is below start seen ends = record {
+  first = v;
+  last = w;
+  job = job;
+  start = start;
+  seen = seen;
+  ends = ends;
+  made = subst (λ (k : Job). AreOfNode k (calls_by v.number w.seen)) job (paths_are_of_nodes v w p (calls_by v.number w.seen) below start ends.path ([], append-nil (calls_by v.number w.seen)));
+  full = has_filled limit w r (seen.limit ∙ is) ends.full;
+}
+
+-- a node without a thread made no call
+pub never_ran : (j : Job) (entries p : ℕ) (orders : NodeOrders) → p < j.plan.parts → HasRun j entries p orders (Err fault.Memory)
+never_ran j entries p orders below =
+    let v : Caller = record { number = 0; limit = 1; seen = start_history j } in
+    let legal : IsCaller v = record { legal = tt; fits = omega arith } in
+    let ends : EndsAs v p orders.lose (Err fault.Memory) v = out_of_memory v p orders.lose fault.Memory refl in
+    record {
+      first = v;
+      last = v;
+      job = refl;
+      start = refl;
+      seen = extends_self v legal;
+      ends = ends;
+      made = paths_are_of_nodes v v p [] below refl ends.path ([], refl);
+      full = λ same. absurd (cc);
+    }

@@ -26,7 +26,7 @@ use Rattle.replica.proofs.KeptLemmas.Kept.{true_named}
 use Rattle.replica.proofs.LevelLemmas.Level.{plan_is, number_is}
 use Rattle.replica.proofs.RunsLemmas.Run.{has_content, made}
 use Rattle.replica.proofs.RunsLemmas.Same.{content_is_one}
-use Rattle.workers.specs.Tie.{Step, Calls, Closes as ClosesUp, StartsAnew, after_board_call, after_step, after_steps, IsOwnName, IsOwnCall, IsOwnStep, AreOwnSteps, calls_among, HasCome, HasGone, IsPathTo, Reaches, AreOfNode, IsRunOfWorld, PathsAreOfNodes, ReplicasAreOfRuns}
+use Rattle.workers.specs.Tie.{Step, Calls, Closes as ClosesUp, StartsAnew, after_board_call, after_step, after_steps, IsOwnName, IsOwnCall, IsOwnStep, AreOwnSteps, SparesLast, AllSpareLast, calls_among, HasCome, HasGone, IsPathTo, Reaches, AreOfNode, IsRunOfWorld, PathsAreOfNodes, ReplicasAreOfRuns}
 use Rattle.workers.proofs.TieLemmas.{histories_are_runs}
 use Rattle.workers.proofs.SuperstepLemmas.{name_of_true}
 
@@ -41,6 +41,11 @@ unfolding after_steps AreOwnSteps
 own-append j p h [] ys a b = b
 own-append j p h (x ∷ xs) ys a b = (a.0, own-append j p (after_step j p h x) xs ys a.1 b)
 
+spared-append : (j : Job) (p : ℕ) (h : Holding) (xs ys : List Step) → AllSpareLast j p h xs → AllSpareLast j p (after_steps j p h xs) ys → AllSpareLast j p h (xs ++ ys)
+unfolding after_steps AllSpareLast
+spared-append j p h [] ys a b = b
+spared-append j p h (x ∷ xs) ys a b = (a.0, spared-append j p (after_step j p h x) xs ys a.1 b)
+
 calls-append : (xs ys : List Step) → calls_among (xs ++ ys) ≡ calls_among xs ++ calls_among ys
 unfolding calls_among
 calls-append [] ys = refl
@@ -50,20 +55,20 @@ calls-append (StartsAnew ∷ xs) ys = calls-append xs ys
 
 -- ---- one step
 pub come_nowhere : (v w : Caller) (p : ℕ) (h : Holding) → CalledNothing v w → HasCome v p h h w
-unfolding after_steps AreOwnSteps calls_among
-come_nowhere v w p h none = record { steps = []; own = tt; calls = none ∙ sym (append-nil (calls_by v.number v.seen)); held = refl }
+unfolding after_steps AreOwnSteps AllSpareLast calls_among
+come_nowhere v w p h none = record { steps = []; own = tt; spared = tt; calls = none ∙ sym (append-nil (calls_by v.number v.seen)); held = refl }
 
-pub come_by_call : (v w : Caller) (p : ℕ) (e : HistoryEvent) (h d : Holding) → Called v e w → IsOwnCall v.seen.job h e → after_board_call v.seen.job h e ≡ d → HasCome v p h d w
-unfolding after_steps AreOwnSteps calls_among
-come_by_call v w p e h d called own is = record { steps = Calls e ∷ []; own = (own, tt); calls = called.own; held = is }
+pub come_by_call : (v w : Caller) (p : ℕ) (e : HistoryEvent) (h d : Holding) → Called v e w → IsOwnCall v.seen.job h e → after_board_call v.seen.job h e ≡ d → SparesLast h.superstep (Calls e) → HasCome v p h d w
+unfolding after_steps AreOwnSteps AllSpareLast calls_among
+come_by_call v w p e h d called own is spared = record { steps = Calls e ∷ []; own = (own, tt); spared = (spared, tt); calls = called.own; held = is }
 
 pub come_by_close : (v : Caller) (p : ℕ) (h d : Holding) → held_after v.seen.job h Close ≡ d → HasCome v p h d v
-unfolding after_steps AreOwnSteps calls_among
-come_by_close v p h d is = record { steps = ClosesUp ∷ []; own = (tt, tt); calls = sym (append-nil (calls_by v.number v.seen)); held = is }
+unfolding after_steps AreOwnSteps AllSpareLast calls_among
+come_by_close v p h d is = record { steps = ClosesUp ∷ []; own = (tt, tt); spared = (tt, tt); calls = sym (append-nil (calls_by v.number v.seen)); held = is }
 
 pub come_anew : (v : Caller) (p : ℕ) (h d : Holding) → start_holding v.seen.job.plan p ≡ d → HasCome v p h d v
-unfolding after_steps AreOwnSteps calls_among
-come_anew v p h d is = record { steps = StartsAnew ∷ []; own = (tt, tt); calls = sym (append-nil (calls_by v.number v.seen)); held = is }
+unfolding after_steps AreOwnSteps AllSpareLast calls_among
+come_anew v p h d is = record { steps = StartsAnew ∷ []; own = (tt, tt); spared = (tt, tt); calls = sym (append-nil (calls_by v.number v.seen)); held = is }
 
 -- ---- what is said where a call is refused
 pub ok_is_no_err : {T E : Type 0} (x : T) (e : E) → ◌≡◌ {A = Result T E} (Ok x) (Err e) → ⊥
@@ -78,15 +83,17 @@ err_not_as e f h is = h (err_as e f is)
 
 -- ---- one path behind another
 come_on : (j : Job) (n : ℕ) (u v w : Caller) (p : ℕ) (a b c : Holding) (steps : List Step) → u.seen.job ≡ j → u.number ≡ n → HasCome u p a b v →
-    AreOwnSteps j p b steps → calls_by n w.seen ≡ calls_by n v.seen ++ calls_among steps → after_steps j p b steps ≡ c → HasCome u p a c w
-come_on j n u v w p a b c steps job number h own calls held =
+    AreOwnSteps j p b steps → AllSpareLast j p b steps → calls_by n w.seen ≡ calls_by n v.seen ++ calls_among steps → after_steps j p b steps ≡ c → HasCome u p a c w
+come_on j n u v w p a b c steps job number h own spared calls held =
     let here : after_steps u.seen.job p a h.steps ≡ b = h.held in
     let own_here : AreOwnSteps u.seen.job p (after_steps u.seen.job p a h.steps) steps = subst (λ (d : Holding). AreOwnSteps u.seen.job p d steps) (sym here) (subst (λ (k : Job). AreOwnSteps k p b steps) (sym job) own) in
+    let spared_here : AllSpareLast u.seen.job p (after_steps u.seen.job p a h.steps) steps = subst (λ (d : Holding). AllSpareLast u.seen.job p d steps) (sym here) (subst (λ (k : Job). AllSpareLast k p b steps) (sym job) spared) in
     let made : calls_by u.number w.seen ≡ calls_by u.number v.seen ++ calls_among steps = subst (λ (k : ℕ). calls_by k w.seen ≡ calls_by k v.seen ++ calls_among steps) (sym number) calls in
     let end : after_steps u.seen.job p b steps ≡ c = subst (λ (k : Job). after_steps k p b steps ≡ c) (sym job) held in
     record {
       steps = h.steps ++ steps;
       own = own-append u.seen.job p a h.steps steps h.own own_here;
+      spared = spared-append u.seen.job p a h.steps steps h.spared spared_here;
       calls = made
           ∙ (ap (λ (l : List HistoryEvent). l ++ calls_among steps) h.calls
           ∙ (append_assoc (calls_by u.number u.seen) (calls_among h.steps) (calls_among steps) ∙ ap (λ (l : List HistoryEvent). calls_by u.number u.seen ++ l) (sym (calls-append h.steps steps))));
@@ -97,7 +104,7 @@ pub nothing_then : (u v w : Caller) → Extends u v → CalledNothing u v → Ca
 nothing_then u v w e a b = subst (λ (n : ℕ). calls_by n w.seen ≡ calls_by n v.seen) e.number b ∙ a
 
 pub come_then : (u v w : Caller) (p : ℕ) (a b c : Holding) → Extends u v → HasCome u p a b v → HasCome v p b c w → HasCome u p a c w
-come_then u v w p a b c e h k = come_on v.seen.job v.number u v w p a b c k.steps (sym e.begins.job) (sym e.number) h k.own k.calls k.held
+come_then u v w p a b c e h k = come_on v.seen.job v.number u v w p a b c k.steps (sym e.begins.job) (sym e.number) h k.own k.spared k.calls k.held
 
 -- where the caller made no call since
 pub come_past : (u v w : Caller) (p : ℕ) (a b : Holding) → Extends u v → HasCome u p a b v → CalledNothing v w → HasCome u p a b w

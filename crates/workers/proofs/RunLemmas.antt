@@ -1,5 +1,5 @@
 -- What a run's refusals say, step by step.
-use Rattle.std.proofs.Common.{◌≡◌, ◌∙◌, ℕ, List, ap, nat_lt, refl, subst, sym}
+use Rattle.std.proofs.Common.{◌≡◌, ◌≢◌, ◌∙◌, ℕ, List, ap, nat_lt, refl, subst, sym}
 use Rattle.std.specs.Prelude.{Option, None, Some, Result, Ok, Err, IfOk, IfErr, IfSome, OnOk, ◌||◌}
 use Rattle.std.specs.Io.KnownBytes.{Appends}
 use Rattle.std.specs.Borrow.{Bor}
@@ -18,8 +18,10 @@ use Rattle.workers.specs.declared.ends.JobError.TheVariants as job
 use Rattle.workers.specs.declared.options.RunOptions.{RunOptions}
 use Rattle.workers.specs.declared.bytes.RunError.{RunError}
 use Rattle.workers.specs.declared.bytes.RunError.TheVariants as fault
-use Rattle.workers.specs.Options.{run_settings_of}
-use Rattle.workers.specs.Run.{AddsReport, AnswersNetwork, IsRunRefusal, RefusesNetwork, RefusesRead, WherePlain, run_counted_by, job_fault}
+use Rattle.ball_model.specs.Job.{job_of}
+use Rattle.workers.specs.Job.{IsFirstFault}
+use Rattle.workers.specs.Options.{run_numbers_of, run_settings_of}
+use Rattle.workers.specs.Run.{AddsReport, AnswersNetwork, HasFirstFault, IsRunFault, IsRunRefusal, RefusesNetwork, RefusesRead, WherePlain, run_counted_by, job_fault}
 
 -- what holds of plain bytes, and what follows from it
 pub where_weaker : (o : RunOptions) (told : Option (List ℕ)) (counted : Option (Bor (List ℕ))) (P Q : Settings → List ℕ → Option (List ℕ) → Type 0) → ((input : List ℕ) → P (run_settings_of o) input (list_in counted) → Q (run_settings_of o) input (list_in counted)) → WherePlain o told counted P → WherePlain o told counted Q
@@ -108,3 +110,76 @@ report_planned n network q text is h =
     let both : ◌≡◌ {A = Result PlanValue PlanError} (Ok q) (Ok (plan_over n network.graph)) = is ∙ plan in
     let same : q ≡ plan_over n network.graph = cc both in
     record { planned = plan; text_is = h ∙ ap (λ (a : PlanValue). report_of (mixing_of a) network.graph network.labels a.limit) same }
+
+-- ---- the first fault of the nodes' ends
+-- the fault of the nodes that an error of a run tells
+told_fault : RunError → JobError
+told_fault fault.Options = job.Memory
+told_fault (fault.Edges e) = job.Memory
+told_fault (fault.Counted e) = job.Memory
+told_fault (fault.Plan e) = job.Memory
+told_fault (fault.PartitionLost p) = job.PartitionLost p
+told_fault fault.BookFull = job.BookFull
+told_fault fault.Memory = job.Memory
+told_fault (fault.Starved node r q) = job.Starved node r q
+told_fault fault.Write = job.Memory
+
+told_back : (f : JobError) → told_fault (job_fault f) ≡ f
+unfolding told_fault
+told_back (job.PartitionLost p) = refl
+told_back job.BookFull = refl
+told_back job.Memory = refl
+told_back (job.Starved node s q) = refl
+
+same_error : {T : Type 0} (e d : RunError) → ◌≡◌ {A = Result T RunError} (Err e) (Err d) → e ≡ d
+same_error e d is = cc
+
+none_told : (e : RunError) (f : JobError) → told_fault e ≡ job.Memory → f ≢ job.Memory → e ≡ job_fault f → ⊥
+none_told e f none other is = other (sym (told_back f) ∙ (ap told_fault (sym is) ∙ none))
+
+pub options_first : {T : Type 0} (W : JobError → Type 0) (f : JobError) → f ≢ job.Memory → ◌≡◌ {A = Result T RunError} (Err fault.Options) (Err (job_fault f)) → W f
+unfolding told_fault
+options_first W f other is = absurd (none_told fault.Options f refl other (same_error fault.Options (job_fault f) is))
+
+pub plan_first : {T : Type 0} (W : JobError → Type 0) (x : PlanError) (f : JobError) → f ≢ job.Memory → ◌≡◌ {A = Result T RunError} (Err (fault.Plan x)) (Err (job_fault f)) → W f
+unfolding told_fault
+plan_first W x f other is = absurd (none_told (fault.Plan x) f refl other (same_error (fault.Plan x) (job_fault f) is))
+
+pub memory_first : {T : Type 0} (W : JobError → Type 0) (f : JobError) → f ≢ job.Memory → ◌≡◌ {A = Result T RunError} (Err fault.Memory) (Err (job_fault f)) → W f
+unfolding told_fault
+memory_first W f other is = absurd (none_told fault.Memory f refl other (same_error fault.Memory (job_fault f) is))
+
+pub write_first : {T : Type 0} (W : JobError → Type 0) (r : Result T RunError) → IfErr r (λ e. e ≡ fault.Write) → (f : JobError) → f ≢ job.Memory → r ≡ Err (job_fault f) → W f
+unfolding told_fault
+write_first W (Ok x) kind f other is = absurd (cc)
+write_first W (Err e) kind f other is = absurd (none_told fault.Write f refl other (sym kind ∙ same_error e (job_fault f) is))
+
+pub ok_first : {T : Type 0} (W : JobError → Type 0) (x : T) (f : JobError) → f ≢ job.Memory → ◌≡◌ {A = Result T RunError} (Ok x) (Err (job_fault f)) → W f
+ok_first W x f other is = absurd (cc)
+
+-- of a network that was read
+pub job_first : {T : Type 0} (o : RunOptions) (network : Network) (plan : PlanValue) (e : JobError) → plan_asked (run_numbers_of o) network.graph ≡ Ok plan → (e ≢ job.Memory → IsFirstFault (job_of network.graph plan) o e) →
+    (f : JobError) → f ≢ job.Memory → ◌≡◌ {A = Result T RunError} (Err (job_fault e)) (Err (job_fault f)) → HasFirstFault o network f
+job_first o network plan e asked first f other is =
+    let same : e ≡ f = sym (told_back e) ∙ (ap told_fault (same_error (job_fault e) (job_fault f) is) ∙ told_back f) in
+    record { plan = plan; planned = asked; first = subst (IsFirstFault (job_of network.graph plan) o) same (first (λ m. other (sym same ∙ m))) }
+
+-- where the network is not read
+not_read : (s : Settings) (input : List ℕ) (list : Option (List ℕ)) (f : JobError) → RefusesRead s input list (job_fault f) → ⊥
+not_read s input list (job.PartitionLost p) h = h
+not_read s input list job.BookFull h = h
+not_read s input list job.Memory h = h
+not_read s input list (job.Starved node r q) h = h
+
+pub read_first : {T : Type 0} (o : RunOptions) (told : Option (List ℕ)) (counted : Option (Bor (List ℕ))) (e : RunError) → WherePlain o told counted (λ s input list. RefusesRead s input list e) →
+    (f : JobError) → f ≢ job.Memory → ◌≡◌ {A = Result T RunError} (Err e) (Err (job_fault f)) → WherePlain o told counted (λ s input list. IsRunFault o s input list f)
+read_first o told counted e refused f other is =
+    where_weaker o told counted (λ s input list. RefusesRead s input list e) (λ s input list. IsRunFault o s input list f)
+    (λ input h. absurd (not_read (run_settings_of o) input (list_in counted) f (subst (RefusesRead (run_settings_of o) input (list_in counted)) (same_error e (job_fault f) is) h)))
+    refused
+
+pub network_first : (o : RunOptions) (told : Option (List ℕ)) (counted : Option (Bor (List ℕ))) (network : Network) (f : JobError) → WherePlain o told counted (λ s input list. AreRead s input list network) → HasFirstFault o network f →
+    WherePlain o told counted (λ s input list. IsRunFault o s input list f)
+network_first o told counted network f read first =
+    where_weaker o told counted (λ s input list. AreRead s input list network) (λ s input list. IsRunFault o s input list f)
+    (λ input h. record { network = network; read = h; first = first }) read

@@ -1,5 +1,5 @@
 -- A replica of the caller's job, from call to call.
-use Rattle.std.proofs.Common.{◌≡◌, ◌≢◌, ◌⊎◌, ⊎_elim, ℕ, ◌<◌, false, not, ◌==◌, ◌&&◌, Some, sym, ap, ◌∙◌, subst, arith}
+use Rattle.std.proofs.Common.{◌≡◌, ◌≢◌, ◌⊎◌, ⊎_elim, ℕ, ◌+◌, ◌<◌, ◌≤◌, max, false, not, ◌==◌, ◌&&◌, Some, sym, ap, ◌∙◌, subst, arith}
 use Rattle.std.proofs.lemmas.Bool.{and_parts, not-true, eqb-false}
 use Rattle.ball_model.specs.declared.names.BatchName.{BatchName}
 use Rattle.ball_model.specs.declared.history.Posted.{Posted}
@@ -8,9 +8,11 @@ use Rattle.ball_model.specs.PlanValue.{PlanValue}
 use Rattle.ball_model.specs.Batches.{BatchValue, true_batch}
 use Rattle.ball_model.specs.Content.{missing_of}
 use Rattle.ball_model.specs.State.{State, StandsFor, content_of}
-use Rattle.ball_model.specs.History.{Post}
+use Rattle.ball_model.specs.History.{Entry, IsAnswer, IsLegal, Post, Recall, board_of, entry, holding_in, with_entry}
+use Rattle.ball_model.specs.Join.{Holding}
 use Rattle.ball_model.specs.Caller.{Caller, Extends, Called}
 use Rattle.ball_model.proofs.EndLemmas.{find_found}
+use Rattle.ball_model.proofs.HistoryLemmas.{last_is_answer}
 use Rattle.replica.specs.Level.{EndsRun, found_verdict, missing_in}
 use Rattle.replica.proofs.LevelLemmas.Level.{plan_is, number_is}
 use Rattle.replica.proofs.KeptLemmas.Kept.{true_named}
@@ -20,7 +22,7 @@ use Rattle.report.proofs.EndingLemmas.{is_ended}
 use Rattle.workers.specs.declared.superstep.SuperstepEnd.{SuperstepEnd}
 use Rattle.workers.specs.declared.superstep.SuperstepEnd.TheVariants as superstep_end
 use Rattle.workers.specs.Node.{HasPosted, HasToldAll, IsDone}
-use Rattle.workers.specs.Superstep.{IsPartOf, IsSuperstepEnd, StandsIn}
+use Rattle.workers.specs.Superstep.{HasRecalled, IsPartOf, IsSuperstepEnd, StandsIn}
 use Rattle.workers.proofs.SeenLemmas.{posted_by_call}
 
 -- ---- the job stays
@@ -81,6 +83,21 @@ told_by_call j v w name a b r e is h = subst (λ (n : BatchName). HasPosted v n 
 
 pub taken_stands : (j : Job) (p : ℕ) (v w : State) (b : BatchValue) (name : BatchName) → b ≡ true_batch j name → (b ≡ true_batch j b.name → StandsFor j p v.superstep w) → StandsFor j p w.superstep w
 taken_stands j p v w b name is stands = stands_at j p v.superstep w (stands (true_named j name b is))
+
+-- ---- supersteps
+pub at_level : (r : State) (s : ℕ) → s ≡ r.superstep → s ≤ (holding_in r).superstep
+at_level r s is = let e : s ≤ r.superstep = omega (arith, is) in e
+
+-- a snapshot of a further superstep takes a replica there
+pub is_further : (v w : Caller) (p s before now : ℕ) → HasRecalled v p (s + 1) before now w → Extends v w → s < now
+is_further v w p s before now found seen =
+    let c : Holding = found.content in
+    let made : Entry = entry v.number (Recall p (s + 1) c) in
+    let legal : IsLegal (with_entry found.called.met made) = subst IsLegal found.called.last seen.legal in
+    let answer : IsAnswer (board_of found.called.met) (Recall p (s + 1) c) = last_is_answer found.called.met made legal in
+    let far : s + 1 ≤ c.superstep = answer.1 in
+    let is : now ≡ max before c.superstep = found.superstep in
+    omega (arith, far, is)
 
 -- ---- the end of a superstep, and of the run
 pub closed_end : (v w : Caller) (p : ℕ) (old new : State) (t : SuperstepEnd) → (t ≡ superstep_end.Next) ⊎ (t ≡ superstep_end.Over) → (t ≡ superstep_end.Over → (new ≡ old) × EndsRun (found_verdict new)) → HasToldAll v old.superstep p w → IsSuperstepEnd v p new t w

@@ -9,7 +9,6 @@ use Rattle.ball_model.specs.declared.names.NodeId.{NodeId}
 use Rattle.ball_model.specs.declared.history.Posted.{Posted}
 use Rattle.ball_model.specs.declared.history.Posted.TheVariants as posted
 use Rattle.ball_model.specs.declared.history.Kept.{Kept}
-use Rattle.ball_model.specs.declared.history.Kept.TheVariants as kept
 use Rattle.ball_model.specs.declared.world.Event.{Event as Happening}
 use Rattle.ball_model.specs.declared.world.Event.TheVariants as event
 use Rattle.ball_model.specs.PlanValue.{PlanValue}
@@ -284,11 +283,11 @@ kept_later cs ds p None h = tt
 kept_later cs ds p (Some c) h = (in_later cs ds c h.0, h.1)
 
 kept_put : (cs : List Holding) (c : Holding) (r : Kept) (p : ℕ) (old : Option Holding) (b : Bool) → (is_new_keep r && (p == c.partition)) ≡ b → KeptIn cs p old →
-    KeptIn (cs ++ (if is_new_keep r then c ∷ [] else [])) p (if b then Some c else old)
-kept_put cs c r p old false e h = kept_later cs (if is_new_keep r then c ∷ [] else []) p old h
+    KeptIn (cs ++ c ∷ []) p (if b then Some c else old)
+kept_put cs c r p old false e h = kept_later cs (c ∷ []) p old h
 kept_put cs c r p old true e h =
     let both = and_parts (is_new_keep r) (p == c.partition) e in
-    rw both.0 (in_last cs c, sym (eqb-true p c.partition both.1))
+    (in_last cs c, sym (eqb-true p c.partition both.1))
 
 kept_push : (o : Object) (e : HistoryEvent) (cs : List Holding) (p : ℕ) → KeptIn cs p (o.kept p) → KeptIn (cs ++ copied_by e) p ((after o e).kept p)
 kept_push o (Post n r) cs p h = kept_later cs [] p (o.kept p) h
@@ -464,13 +463,12 @@ posts j replicas done w n id c name posted.New h a own =
 
 keeps : (j : Job) (replicas : ℕ) (done : List Entry) (w : World) (n : ℕ) (id : NodeId) (c d : Holding) (r : Kept) → Come j replicas done w → Does j w id c → d ≡ c →
     ComeNext j replicas (done ++ entry n (Keep d r) ∷ [])
-keeps j replicas done w n id c d kept.Behind h a own = record { world = w; come = silent j replicas done w (entry n (Keep d kept.Behind)) h refl refl }
-keeps j replicas done w n id c d kept.New h a own =
+keeps j replicas done w n id c d r h a own =
     let v : World = run_of j w a.events in
     let u : World = record v { copies = v.copies ++ d ∷ [] } in
     record {
       world = u;
-      come = come_then j replicas done w (entry n (Keep d kept.New)) id c (event.Copy id) u h a
+      come = come_then j replicas done w (entry n (Keep d r)) id c (event.Copy id) u h a
           (copies_one j v id c a.node ∙ ap (λ (x : Holding). record v { copies = v.copies ++ x ∷ [] }) (sym own))
           (a.sent ∙ sym (append-nil w.sent)) (ap (λ (l : List Holding). l ++ d ∷ []) a.copies) refl;
     }

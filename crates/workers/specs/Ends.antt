@@ -3,6 +3,7 @@
 use Rattle.std.specs.Prelude.{ℕ, ◌+◌, Bool, true, false, ◌||◌, List, [], ◌∷◌, Option, None, Some, Result, Ok, Err, if◌then◌else◌}
 use Rattle.std.specs.List.{list_all, list_any}
 use Rattle.ball_model.specs.declared.names.NodeId.{NodeId}
+use Rattle.ball_model.specs.State.{State}
 use Rattle.workers.specs.declared.ends.Faults.{Faults}
 use Rattle.workers.specs.declared.ends.JobError.{JobError}
 use Rattle.workers.specs.declared.ends.JobError.TheVariants as job
@@ -26,6 +27,23 @@ is_done (Ok (ends.Lost s)) = false
 is_done (Ok (ends.Starved s q)) = false
 is_done (Err e) = false
 
+-- the replica of a node that has reached the end
+abbrev pub done_of : Result NodeEnd NodeError → Option State
+done_of (Ok (ends.Done r)) = Some r
+done_of (Ok (ends.Lost s)) = None
+done_of (Ok (ends.Starved s q)) = None
+done_of (Err e) = None
+
+-- the first of two, where there is one, else the second
+abbrev pub first_some : {A : Type 0} → Option A → Option A → Option A
+first_some None other = other
+first_some (Some a) other = Some a
+
+-- the replica of the first node of a partition that has reached the end
+unfoldable pub first_done : List (Result NodeEnd NodeError) → Option State
+first_done [] = None
+first_done (r ∷ more) = first_some (done_of r) (first_done more)
+
 -- each partition has a node that has reached the end of the run
 abbrev pub each_has_done : {V : Type 0} → (V → List (Result NodeEnd NodeError)) → List V → Bool
 each_has_done items all = list_all (λ own. list_any is_done (items own)) all
@@ -48,11 +66,6 @@ waited node (Ok (ends.Done r)) = None
 waited node (Ok (ends.Lost s)) = None
 waited node (Ok (ends.Starved s q)) = Some (record { node = node; superstep = s; source = q })
 waited node (Err e) = None
-
--- the first of two, where there is one, else the second
-abbrev pub first_some : {A : Type 0} → Option A → Option A → Option A
-first_some None other = other
-first_some (Some a) other = Some a
 
 -- all nodes of a partition were lost
 abbrev pub all_lost : List (Result NodeEnd NodeError) → Bool
@@ -123,3 +136,12 @@ fault_of f = fault_by f.lost f.full f.memory f.starved
 -- the first fault of all nodes, by their ends
 abbrev pub first_fault : {V : Type 0} → (V → List (Result NodeEnd NodeError)) → List V → JobError
 first_fault items all = fault_of (faults_in items all)
+
+-- none where all is done, else that fault
+abbrev pub fault_unless : Bool → JobError → Option JobError
+fault_unless true e = None
+fault_unless false e = Some e
+
+-- the first fault of all nodes, where some partition has no node that has reached the end
+abbrev pub fault_in : {V : Type 0} → (V → List (Result NodeEnd NodeError)) → List V → Option JobError
+fault_in items all = fault_unless (each_has_done items all) (first_fault items all)

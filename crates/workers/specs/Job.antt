@@ -1,7 +1,8 @@
 -- All nodes of a job: what they are told, and what they say at their ends.
-use Rattle.std.specs.Prelude.{◌≡◌, ◌≢◌, ⊤, ℕ, ◌+◌, ◌*◌, ◌^◌, ◌<◌, ◌≤◌, List, [], ◌∷◌, length, Option, None, is_some, true, false, Result, Err, IfOk, IfSome, slice_index_or}
+use Rattle.std.specs.Prelude.{◌≡◌, ◌≢◌, ⊤, ℕ, ◌+◌, ◌*◌, ◌^◌, ◌<◌, ◌≤◌, List, [], ◌∷◌, length, Option, None, is_some, true, false, Result, Err, IfErr, IfOk, IfSome, slice_index_or}
 use Rattle.ball_model.specs.declared.names.NodeId.{NodeId}
-use Rattle.ball_model.specs.Caller.{IsCaller}
+use Rattle.ball_model.specs.Caller.{Caller, Extends, IsCaller}
+use Rattle.ball_model.specs.History.{calls_by, entries_of}
 use Rattle.ball_model.specs.Job.{Job, PartValue, job_of, part_of}
 use Rattle.ball_model.specs.State.{State}
 use Rattle.board.specs.Seats.{BoardView, SeatView, IsAt}
@@ -15,7 +16,10 @@ use Rattle.workers.specs.declared.node.NodeOrders.{NodeOrders}
 use Rattle.workers.specs.declared.options.RunOptions.{RunOptions}
 use Rattle.workers.specs.declared.assignment.Assignment.{Assignment}
 use Rattle.workers.specs.Node.{FallsDue, IfDone, IfLost, IfStarved, IsDone}
+use Rattle.workers.specs.Ends.{each_has_done, first_fault}
 use Rattle.workers.specs.Options.{order_for, orders_for}
+use Rattle.workers.specs.Superstep.{EndsAs}
+use Rattle.workers.specs.Tie.{AreOfNode}
 
 -- each element has what its place says, where the first one has place k
 abbrev pub EachAt : {A : Type 0} → (ℕ → A → Type 0) → ℕ → List A → Type 0
@@ -30,6 +34,19 @@ pub record KeepsItsOrders (j : Job) (p : ℕ) (orders : NodeOrders)
   pub alone : j.plan.parts ≡ 1 → IfOk r (λ end. IfStarved end (λ s q. ⊥))
   pub alone_fits : j.plan.parts ≡ 1 → orders.keep ≡ 0 → orders.restart ≡ None →
       r ≢ Err fault.BookFull
+
+-- a run of a node of partition p that is told so, and has this end: what its caller had seen before the first of its
+-- calls, and after the last
+pub record HasRun (j : Job) (entries p : ℕ) (orders : NodeOrders)
+    (r : Result NodeEnd NodeError) : Type 0 where
+  pub first : Caller
+  pub last : Caller
+  pub job : first.seen.job ≡ j
+  pub start : calls_by first.number first.seen ≡ []
+  pub seen : Extends first last
+  pub ends : EndsAs first p orders.lose r last
+  pub made : AreOfNode j (calls_by first.number last.seen)
+  pub full : IfErr r (λ e. e ≡ fault.BookFull → entries_of last.seen ≡ entries)
 
 -- the job of the plan with another digest
 abbrev pub signed_job : Job → List ℕ → Job
@@ -62,12 +79,14 @@ pub record IsAssigned (j : Job) (o : RunOptions) (p k : ℕ) (assigned : Assignm
   pub job : job_in assigned ≡ j
   pub part : assigned.node.part ≡ p
   pub orders : assigned.orders ≡ orders_for o p k
+  pub entries : assigned.entries ≡ o.entries
 
 -- the ends of the nodes of partition p
 pub record IsPartEnd (j : Job) (o : RunOptions) (p : ℕ)
     (ends : List (Result NodeEnd NodeError)) : Type 0 where
   pub count : length ends ≡ o.replicas
   pub each : EachAt (λ k. KeepsItsOrders j p (orders_for o p k)) 0 ends
+  pub ran : EachAt (λ k. HasRun j o.entries p (orders_for o p k)) 0 ends
 
 -- the ends of all nodes, by partition
 pub record AreEnds {V : Type 0} (items : V → List (Result NodeEnd NodeError)) (j : Job)
@@ -82,6 +101,7 @@ AllOrdered replicas p orders = (k : ℕ) → k < replicas → is_some (order_for
 -- the threads of partition p's nodes, each told what its node is told
 pub record IsPartStarted {H : Type 0} (assigned : H → Assignment) (j : Job) (o : RunOptions) (p : ℕ)
     (children : List (Option H)) : Type 0 where
+  pub below : p < j.plan.parts
   pub count : length children ≡ o.replicas
   pub each : EachAt (λ k child. IfSome child (λ h. IsAssigned j o p k (assigned h))) 0 children
 
@@ -95,6 +115,13 @@ pub record AreStarted {H V : Type 0} (assigned : H → Assignment) (items : V �
 pub record IsPartitionLost (parts : ℕ) (o : RunOptions) (p : ℕ) : Type 0 where
   pub below : p < parts
   pub ordered : AllOrdered o.replicas p o.lose.items
+
+-- the first fault of the ends of all nodes, where some partition has no node that is done
+pub record IsFirstFault (j : Job) (o : RunOptions) (e : JobError) : Type 0 where
+  pub ends : List (List (Result NodeEnd NodeError))
+  pub all : AreEnds (λ own. own) j o ends
+  pub lacking : each_has_done (λ own. own) ends ≡ false
+  pub first : e ≡ first_fault (λ own. own) ends
 
 -- what is noted of the nodes of so many partitions
 pub record AreNoted (parts : ℕ) (o : RunOptions) (f : Faults) : Type 0 where

@@ -1,9 +1,11 @@
 -- A run: what is asked of it, and what its refusals say of the input.
-use Rattle.std.specs.Prelude.{◌≡◌, ⊤, ℕ, false, List, Option, Result, Err, IfSome}
+use Rattle.std.specs.Prelude.{◌≡◌, ⊤, ℕ, false, List, Option, Result, Ok, Err, IfSome}
 use Rattle.std.specs.Prelude.{MatchResult}
 use Rattle.std.specs.Borrow.{Bor}
 use Rattle.ball_model.specs.Input.{Network}
 use Rattle.ball_model.specs.Counting.{CountedRefusal}
+use Rattle.ball_model.specs.Job.{job_of}
+use Rattle.ball_model.specs.PlanValue.{PlanValue}
 use Rattle.ball_model.specs.RunText.{AppendsReport, ArePlain, AreRead, HasPlan, IsPlanFault, IsReportOf}
 use Rattle.ball_model.specs.RunText.{Numbers, Settings, counted_in, list_in, network_in, plan_asked}
 use Rattle.edgelist.specs.Reading.{Refuses}
@@ -13,8 +15,8 @@ use Rattle.workers.specs.declared.ends.JobError.TheVariants as job
 use Rattle.workers.specs.declared.options.RunOptions.{RunOptions}
 use Rattle.workers.specs.declared.bytes.RunError.{RunError}
 use Rattle.workers.specs.declared.bytes.RunError.TheVariants as fault
-use Rattle.workers.specs.Job.{IsFaultOf}
-use Rattle.workers.specs.Options.{are_in_limits, run_settings_of}
+use Rattle.workers.specs.Job.{IsFaultOf, IsFirstFault}
+use Rattle.workers.specs.Options.{are_in_limits, run_numbers_of, run_settings_of}
 
 -- where a reader tells its bytes, and these and the list are plain, this holds of what is asked
 abbrev pub WherePlain : RunOptions → Option (List ℕ) → Option (Bor (List ℕ)) →
@@ -44,6 +46,19 @@ job_fault (job.PartitionLost p) = fault.PartitionLost p
 job_fault job.BookFull = fault.BookFull
 job_fault job.Memory = fault.Memory
 job_fault (job.Starved node s q) = fault.Starved node s q
+
+-- over a network there is such a plan, and the fault is the first of the ends of all nodes
+pub record HasFirstFault (o : RunOptions) (network : Network) (e : JobError) : Type 0 where
+  pub plan : PlanValue
+  pub planned : plan_asked (run_numbers_of o) network.graph ≡ Ok plan
+  pub first : IsFirstFault (job_of network.graph plan) o e
+
+-- and both say that network
+pub record IsRunFault (o : RunOptions) (s : Settings) (input : List ℕ) (list : Option (List ℕ))
+    (e : JobError) : Type 0 where
+  pub network : Network
+  pub read : AreRead s input list network
+  pub first : HasFirstFault o network e
 
 -- what a refusal says of the options
 abbrev pub IsFaultIn : RunOptions → RunError → Type 0

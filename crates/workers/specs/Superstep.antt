@@ -1,9 +1,10 @@
 -- A superstep of a node, and how the node's replica fares.
-use Rattle.std.specs.Prelude.{◌≡◌, ◌≢◌, ⊤, ℕ, ◌<◌, ◌-◌, ◌⊎◌, max, Option, None, Some, Result, Ok, Err, IfErr, IfOk}
+use Rattle.std.specs.Prelude.{◌≡◌, ◌≢◌, ⊤, ℕ, ◌<◌, ◌-◌, ◌%◌, ◌==◌, ◌&&◌, ◌⊎◌, Bool, not, max, Option, None, Some, Result, Ok, Err, IfErr, IfOk}
 use Rattle.ball_model.specs.Job.{IsJob, Job, PartValue, part_of}
 use Rattle.ball_model.specs.State.{State, StandsFor}
 use Rattle.ball_model.specs.Caller.{Called, CalledNothing, Caller, IsFull}
-use Rattle.ball_model.specs.History.{Drop, Recall, holding_in}
+use Rattle.ball_model.specs.History.{Drop, Keep, Recall, holding_in}
+use Rattle.ball_model.specs.declared.history.Kept.{Kept}
 use Rattle.ball_model.specs.Held.{start_holding}
 use Rattle.ball_model.specs.Join.{Holding}
 use Rattle.replica.specs.Level.{EndsRun, found_verdict, missing_in}
@@ -19,7 +20,7 @@ use Rattle.workers.specs.declared.superstep.Found.TheVariants as found
 use Rattle.workers.specs.declared.superstep.SuperstepEnd.{SuperstepEnd}
 use Rattle.workers.specs.declared.superstep.SuperstepEnd.TheVariants as superstep_end
 use Rattle.workers.specs.Node.{FallsDue, HasToldAll, IfDone, IfLost, IfStarved, IsDone, WasMissing}
-use Rattle.workers.specs.Tie.{IsNodePath, IsPathTo}
+use Rattle.workers.specs.Tie.{HasReached, IsNodePath, IsPathTo}
 
 -- the replica stands for partition p of the caller's job, at its superstep
 abbrev pub StandsIn : Caller → ℕ → State → Type 0
@@ -42,11 +43,11 @@ pub record IsFirst (j : Job) (p : ℕ) (r : State) : Type 0 where
   pub stands : StandsFor j p 0 r
   pub held : holding_in r ≡ start_holding j.plan p
 
--- what a replica, of such a superstep before, has found: its level is held; it is at a further superstep; or a batch
--- of the level is missing
+-- what a replica, of superstep s before, has found: its level is held; it is at a further superstep; or a batch of the
+-- level is missing
 abbrev pub IsFound : Caller → ℕ → ℕ → State → Found → Caller → Type 0
 IsFound v p s r found.Level w = (missing_in r ≡ None) × (r.superstep ≡ s)
-IsFound v p s r found.Further w = ⊤
+IsFound v p s r found.Further w = s < r.superstep
 IsFound v p s r (found.Missed q) w = WasWaiting v s q p w × (r.superstep ≡ s)
 
 -- the partition has told all others, and waited for the batch of q
@@ -63,7 +64,7 @@ IsSuperstepEnd v p r (superstep_end.Starved q) w = HasStarved v r.superstep q p 
 abbrev pub IsFate : Caller → ℕ → Option ℕ → State → Fate → Caller → Type 0
 IsFate v p lose r fate.Done w =
     HasToldAll v r.superstep p w × (IsDone v.seen.job p r × (FallsDue lose r.superstep → ⊥))
-IsFate v p lose r (fate.Lost s) w = FallsDue lose s
+IsFate v p lose r (fate.Lost s) w = FallsDue lose s × (s ≡ r.superstep)
 IsFate v p lose r (fate.Starved s q) w = HasStarved v s q p w
 
 -- how a node ends by a fate that is not to reach the end of the run
@@ -78,6 +79,15 @@ end_with (Ok fate.Done) r = Ok (ends.Done r)
 end_with (Ok (fate.Lost s)) r = Ok (ends.Lost s)
 end_with (Ok (fate.Starved s q)) r = Ok (ends.Starved s q)
 end_with (Err e) r = Err e
+
+-- at superstep s a snapshot is kept, where one is every so many supersteps
+abbrev pub is_kept_at : ℕ → ℕ → Bool
+is_kept_at every s = not (every == 0) && (s % every == 0)
+
+-- the caller kept that content, and made no other call
+pub record HasKept (v : Caller) (content : Holding) (w : Caller) : Type 0 where
+  pub reply : Kept
+  pub called : Called v (Keep content reply) w
 
 -- at superstep s the caller drops the batches before the last superstep, or makes no call
 abbrev pub DropsBefore : Caller → ℕ → Caller → Type 0
@@ -100,6 +110,7 @@ pub record EndsAs (v : Caller) (p : ℕ) (lose : Option ℕ) (e : Result NodeEnd
   pub done : IfOk e (λ end. IfDone end (IsDone v.seen.job p))
   pub told : IfOk e (λ end. IfDone end (λ r. HasToldAll v r.superstep p w))
   pub lost : IfOk e (λ end. IfLost end (FallsDue lose))
+  pub reached : IfOk e (λ end. IfLost end (λ s. HasReached v p s w))
   pub spared : IfOk e (λ end. IfDone end (λ r. FallsDue lose r.superstep → ⊥))
   pub starved : IfOk e (λ end. IfStarved end (λ s q. WasMissing v (batch_name s q p) w))
   pub starved_told : IfOk e (λ end. IfStarved end (λ s q. HasToldAll v s p w))

@@ -9,7 +9,7 @@ use Rattle.ball_model.specs.State.{State}
 use Rattle.ball_model.specs.Join.{Holding, join_of}
 use Rattle.ball_model.specs.Steps.{Take, Close}
 use Rattle.ball_model.specs.Held.{start_holding, held_after}
-use Rattle.ball_model.specs.History.{HistoryEvent, Post, Fetch, Keep, Recall, Drop, Entry, History, IsLegal, calls_by, is_new_post, is_new_keep, holding_in}
+use Rattle.ball_model.specs.History.{HistoryEvent, Post, Fetch, Keep, Recall, Drop, Entry, History, IsLegal, calls_by, is_new_post, holding_in}
 use Rattle.ball_model.specs.Caller.{Caller}
 use Rattle.ball_model.specs.World.{World, start_world, node_at, run_of}
 
@@ -65,6 +65,22 @@ AreOwnSteps j p h [] = ⊤
 AreOwnSteps j p h (step ∷ steps) =
     IsOwnStep j h step × AreOwnSteps j p (after_step j p h step) steps
 
+-- where a node at superstep s drops batches, those of the superstep before its own stay
+abbrev pub SparesLast : ℕ → Step → Type 0
+SparesLast s (Calls (Post name r)) = ⊤
+SparesLast s (Calls (Fetch name)) = ⊤
+SparesLast s (Calls (Keep c r)) = ⊤
+SparesLast s (Calls (Recall p least c)) = ⊤
+SparesLast s (Calls (Drop below)) = below < s
+SparesLast s Closes = ⊤
+SparesLast s StartsAnew = ⊤
+
+-- so it is at each of the steps
+unfoldable pub AllSpareLast : Job → ℕ → Holding → List Step → Type 0
+AllSpareLast j p h [] = ⊤
+AllSpareLast j p h (step ∷ steps) =
+    SparesLast h.superstep step × AllSpareLast j p (after_step j p h step) steps
+
 -- the calls among the steps
 unfoldable pub calls_among : List Step → List HistoryEvent
 calls_among [] = []
@@ -76,6 +92,7 @@ calls_among (StartsAnew ∷ steps) = calls_among steps
 pub record HasCome (v : Caller) (p : ℕ) (old new : Holding) (w : Caller) : Type 0 where
   pub steps : List Step
   pub own : AreOwnSteps v.seen.job p old steps
+  pub spared : AllSpareLast v.seen.job p old steps
   pub calls : calls_by v.number w.seen ≡ calls_by v.number v.seen ++ calls_among steps
   pub held : after_steps v.seen.job p old steps ≡ new
 
@@ -87,6 +104,12 @@ pub record HasGone (v : Caller) (p : ℕ) (old : Holding) (w : Caller) : Type 0 
 -- since then the caller's own calls are those of a node of partition p from its start
 abbrev pub IsNodePath : Caller → ℕ → Caller → Type 0
 IsNodePath v p w = HasGone v p (start_holding v.seen.job.plan p) w
+
+-- and by them the node came to superstep s
+pub record HasReached (v : Caller) (p s : ℕ) (w : Caller) : Type 0 where
+  pub held : Holding
+  pub come : HasCome v p (start_holding v.seen.job.plan p) held w
+  pub superstep : held.superstep ≡ s
 
 -- and by them the node came to hold what that replica holds
 abbrev pub IsPathTo : Caller → ℕ → State → Caller → Type 0
@@ -115,11 +138,11 @@ sent_by (Keep c r) = []
 sent_by (Recall p s c) = []
 sent_by (Drop s) = []
 
--- the content that a call kept, where it was further
+-- the content that a call was to keep, also where another one was as far already
 abbrev pub copied_by : HistoryEvent → List Holding
 copied_by (Post name r) = []
 copied_by (Fetch name) = []
-copied_by (Keep c r) = if is_new_keep r then c ∷ [] else []
+copied_by (Keep c r) = c ∷ []
 copied_by (Recall p s c) = []
 copied_by (Drop s) = []
 
@@ -128,7 +151,7 @@ unfoldable pub sent_in : List Entry → List BatchName
 sent_in [] = []
 sent_in (e ∷ es) = sent_by e.event ++ sent_in es
 
--- the contents of its new keeps, in order
+-- the contents of its keeps, in order
 unfoldable pub copied_in : List Entry → List Holding
 copied_in [] = []
 copied_in (e ∷ es) = copied_by e.event ++ copied_in es
@@ -146,8 +169,8 @@ pub record CanHold (j : Job) (w : World) (id : NodeId) (c : Holding) : Type 0 wh
   pub comes : ComesTo j w id events c
 
 -- a run of a world with so many replicas of each partition: what was sent are the names of the history's new posts,
--- what was copied are the contents of its new keeps, and what a caller's node holds is held by a node of the world
--- after some further events, in which nothing more is sent or copied
+-- what was copied are the contents of its keeps, and what a caller's node holds is held by a node of the world after
+-- some further events, in which nothing more is sent or copied
 pub record IsRunOfWorld (replicas : ℕ) (h : History) : Type 0 where
   pub events : List Happening
   pub sent : (run_of h.job (start_world h.job.plan replicas) events).sent ≡ sent_in h.calls

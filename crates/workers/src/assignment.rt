@@ -1,4 +1,4 @@
-//! What a node's thread promises.
+//! What a node's thread promises: how its node ended, and by which calls.
 
 use crate::node::{NodeEnd, NodeError, NodeOrders};
 use ball_model::{NodeId, Plan};
@@ -16,12 +16,15 @@ pub struct Assignment {
     pub plan: Plan,
     pub node: NodeId,
     pub orders: NodeOrders,
+    /// How many entries the board's history may have.
+    pub entries: u32,
 }
 
 impl Promise<NodeResult> for Assignment {
     ghost use Rattle.ball_model.specs.Job.{job_of};
-    ghost use Rattle.workers.specs.Job.{KeepsItsOrders};
+    ghost use Rattle.workers.specs.Job.{HasRun, KeepsItsOrders};
 
     ghost kept_by = { λ p r.
-        KeepsItsOrders (job_of p.graph.value.graph p.plan) p.node.part p.orders r };
+        KeepsItsOrders (job_of p.graph.value.graph p.plan) p.node.part p.orders r
+        × HasRun (job_of p.graph.value.graph p.plan) p.entries p.node.part p.orders r };
 }

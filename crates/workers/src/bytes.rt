@@ -13,10 +13,12 @@ ghost use Rattle.edgelist.specs.Counting.{RefusesList};
 ghost use Rattle.edgelist.specs.Planning.{signed};
 ghost use Rattle.edgelist.specs.Reading.{CountsOne, Refuses, byte_of};
 ghost use Rattle.edgelist.specs.Records.{ForPlain};
-ghost use Rattle.workers.specs.Job.{AreDone, AreParts, IsFaultOf};
+ghost use Rattle.workers.specs.declared.ends.JobError.{JobError as NodesFault};
+ghost use Rattle.workers.specs.Job.{AreDone, AreParts, IsFaultOf, IsFirstFault};
 ghost use Rattle.workers.specs.Options.{are_in_limits, run_numbers_of, run_settings_of};
-ghost use Rattle.workers.specs.Run.{AddsReport, AnswersNetwork, IsFaultIn, IsRunRefusal};
-ghost use Rattle.workers.specs.Run.{RefusesRead, WherePlain, run_counted_by};
+ghost use Rattle.workers.specs.Run.{AddsReport, AnswersNetwork, HasFirstFault, IsFaultIn};
+ghost use Rattle.workers.specs.Run.{IsRunFault, IsRunRefusal, RefusesRead, WherePlain};
+ghost use Rattle.workers.specs.Run.{job_fault, run_counted_by};
 
 use crate::ends::JobError;
 use crate::gate::Gate;
@@ -264,6 +266,8 @@ fn planned_text<T: AllocGlobal + Threads + Wait + Sync, G: Gate + Sync>(
     ensures ok { IfOk result (λ text. text ≡
         report_of (mixing_of plan.now) graph.now.graph graph.now.labels plan.now.limit) }
     ensures fault { IfErr result (IsFaultOf plan.now.parts options.now) }
+    ensures first { IfErr result (λ e. e ≢ JobError.Memory →
+        IsFirstFault (job_of graph.now.graph plan.now) options.now e) }
 {
     let replicas = run_job(rt, graph, plan, parts, options, gate)?;
     let text = replicas_text(rt, graph, plan, &replicas, usize::from(options.threads))?;
@@ -280,6 +284,8 @@ fn report_text<T: AllocGlobal + Threads + Wait + Sync, G: Gate + Sync>(
     requires limits { are_in_limits options.now ≡ true }
     ensures answer { AnswersNetwork (run_numbers_of options.now) graph.now result }
     ensures fault { IfErr result (IsFaultIn options.now) }
+    ensures first { (f : NodesFault) → f ≢ JobError.Memory → result ≡ Err (job_fault f) →
+        HasFirstFault options.now graph.now f }
 {
     let bare = bare_plan_for(graph, options)?;
     let Planned { plan, mut parts } = plan_parts(rt, graph, &bare)?;
@@ -307,6 +313,9 @@ fn read_text<T: AllocGlobal + Threads + Wait + Sync, R: CountedRead, G: Gate + S
     ensures failed { CountsOne (R.failed_calls reader.old) (R.failed_calls reader.new) →
         result ≡ Err (RunError.Edges EdgeError.Read) }
     ensures fault { IfErr result (IsFaultIn options.now) }
+    ensures first { (f : NodesFault) → f ≢ JobError.Memory → result ≡ Err (job_fault f) →
+        WherePlain options.now (R.remaining reader.old) counted.entry
+        (λ s input list. IsRunFault options.now s input list f) }
 {
     if !options.are_in_limits() {
         return Err(RunError::Options);
@@ -340,8 +349,8 @@ fn write_text<W: CountedWrite>(writer: &mut W, text: &Pages) -> Result<(), RunEr
 /// order mark at the front, and an LF after each CR.
 ///
 /// In this order: `Options`, before anything is read; `Edges`, `Counted` and `Plan`; where some partition has no node
-/// that reached the end `PartitionLost`, `BookFull`, `Memory` and `Starved`, the first that some node ended with; then
-/// `Write`. `Memory` is also answered where the growth of the report is refused. Which of the nodes' faults it is may
+/// that reached the end `PartitionLost`, `BookFull`, `Memory` and `Starved`, the first that the nodes' ends give; then
+/// `Write`. `Memory` is also answered where the run's own growth is refused, of the report's text too. Which of the nodes' faults it is may
 /// depend on the schedule, but the report does not: it is that of the input, whatever nodes were lost or started anew.
 ///
 /// Memory is some two times 2^log2m bytes and 40 bytes of figures and weights a vertex and replica; where snapshots are
@@ -370,6 +379,9 @@ pub fn run<T: AllocGlobal + Threads + Wait + Sync, R: CountedRead, W: CountedWri
         Rises (W.failed_calls writer.old) (W.failed_calls writer.new) }
     ensures limits { are_in_limits options.now ≡ false → result ≡ Err RunError.Options }
     ensures fault { IfErr result (IsFaultIn options.now) }
+    ensures first { (f : NodesFault) → f ≢ JobError.Memory → result ≡ Err (job_fault f) →
+        WherePlain options.now (R.remaining reader.old) counted.entry
+        (λ s input list. IsRunFault options.now s input list f) }
     ensures untouched { IfErr result (λ e. e ≢ RunError.Write →
         Keeps (W.contents writer.old) (W.contents writer.new)) }
 {

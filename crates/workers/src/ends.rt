@@ -1,16 +1,16 @@
 //! What the nodes of a job say at their ends, put together.
 
-ghost use Rattle.std.specs.Prelude.{◌≡◌, ◌≢◌, ◌≤◌, ◌<◌, ◌+◌, ◌||◌, ℕ, true, false, All, IfErr};
-ghost use Rattle.std.specs.Prelude.{IfOk, IfSome, OnOk, Some, is_some, length};
+ghost use Rattle.std.specs.Prelude.{◌≡◌, ◌≢◌, ◌≤◌, ◌<◌, ℕ, true, false, All, Err, IfErr, IfOk};
+ghost use Rattle.std.specs.Prelude.{IfSome, Some, is_some, length};
 ghost use Rattle.std.specs.List.{list_any};
 ghost use Rattle.ball_model.specs.Job.{Job};
 ghost use Rattle.ball_model.specs.PlanValue.{most_parts};
 ghost use Rattle.ball_model.specs.declared.plan.TheConstants.{MOST_REPLICAS};
-ghost use Rattle.workers.specs.Job.{AreDone, AreEnds, AreNoted, EachAt, IsFaultOf, IsPartEnd};
+ghost use Rattle.workers.specs.Job.{AreDone, AreEnds, AreNoted, IsFaultOf, IsPartEnd};
 ghost use Rattle.workers.specs.Job.{IsPartitionLost, KeepsItsOrders};
-ghost use Rattle.workers.specs.Ends.{each_has_done, fault_of, first_fault, first_some, is_done};
-ghost use Rattle.workers.specs.Ends.{is_lost, no_faults, with_end, with_part};
-ghost use Rattle.workers.specs.Node.{IfDone, IsDone};
+ghost use Rattle.workers.specs.Ends.{done_of, each_has_done, fault_in, fault_of, first_done};
+ghost use Rattle.workers.specs.Ends.{first_fault, first_some, is_done, is_lost, no_faults, with_end};
+ghost use Rattle.workers.specs.Ends.{with_part};
 ghost use Rattle.workers.specs.Options.{orders_for};
 ghost use Rattle.workers.specs.declared.node.NodeOrders.{NodeOrders as Orders};
 ghost use Rattle.workers.specs.declared.options.RunOptions.{RunOptions as Asked};
@@ -156,34 +156,28 @@ fn note_lost(faults: &mut Faults, p: u16)
     }
 }
 
-// The replica of the first node that has reached the end.
-fn first_done(done: Option<Replica>, end: NodeResult) -> Option<Replica>
-    ensures done { (j : Job) (p : ℕ) → IfSome done (IsDone j p) →
-        IfOk end (λ e. IfDone e (IsDone j p)) → IfSome result (IsDone j p) }
-    ensures some { is_some result ≡ (is_some done || is_done end) }
+/// Whether a node has reached the end of the run.
+pub fn is_done(end: &NodeResult) -> bool
+    ensures { result ≡ is_done end.now }
 {
-    match end {
-        Ok(NodeEnd::Done(replica)) => Some(done.unwrap_or(replica)),
-        _ => done,
-    }
+    matches!(end, Ok(NodeEnd::Done(_)))
 }
 
-// The replica of the first node of a partition that has reached the end; what is wrong with the others is noted.
-fn done_replica(p: u16, ends: Vec<NodeResult>, faults: &mut Faults) -> Option<Replica>
-    requires few { length ends.items ≤ MOST_REPLICAS }
-    ensures done { (j : Job) (o : Asked) → IsPartEnd j o p ends.items → IfSome result (IsDone j p) }
-    ensures some { is_some result ≡ list_any is_done ends.items }
-    ensures noted { (j : Job) (o : Asked) → IsPartEnd j o p ends.items → p < j.plan.parts →
+// Notes what is wrong with the nodes of a partition, and tells whether one of them has reached the end.
+fn note_part(faults: &mut Faults, p: u16, ends: &[NodeResult]) -> bool
+    requires few { length ends.now ≤ MOST_REPLICAS }
+    ensures noted { (j : Job) (o : Asked) → IsPartEnd j o p ends.now → p < j.plan.parts →
         AreNoted j.plan.parts o faults.old → AreNoted j.plan.parts o faults.new }
-    ensures exact { faults.new ≡ with_part p ends.items faults.old }
+    ensures exact { faults.new ≡ with_part p ends.now faults.old }
+    ensures told { result ≡ list_any is_done ends.now }
 {
-    let mut done = None;
+    let mut done = false;
     let mut all_lost = true;
     let mut replica = 0;
     for end in ends {
         let node = NodeId { part: p, replica };
-        all_lost = note(faults, node, &end) && all_lost;
-        done = first_done(done, end);
+        all_lost = note(faults, node, end) && all_lost;
+        done = is_done(end) || done;
         replica += 1;
     }
     if all_lost {
@@ -192,24 +186,65 @@ fn done_replica(p: u16, ends: Vec<NodeResult>, faults: &mut Faults) -> Option<Re
     done
 }
 
-// Adds the replica of the next partition, where there is one, and tells whether there is.
-fn keep_done(done: &mut Vec<Replica>, next: Option<Replica>) -> Result<bool, AllocError>
-    ensures kept { IfOk result (λ kept. kept ≡ is_some next) }
-    ensures count { IfOk result (λ kept. kept ≡ true →
-        length done.new.items ≡ length done.old.items + 1) }
-    ensures each { (j : Job) → IfSome next (IsDone j (length done.old.items)) →
-        EachAt (IsDone j) 0 done.old.items → OnOk result (EachAt (IsDone j) 0 done.new.items) }
+// The first fault of all nodes, where some partition has no node that has reached the end. It takes no memory.
+fn fault_in(ends: &[Vec<NodeResult>]) -> Option<JobError>
+    requires few { All (λ own. length own.items ≤ MOST_REPLICAS) ends.now }
+    requires parts { length ends.now ≤ most_parts }
+    ensures exact { result ≡ fault_in (λ own. own.items) ends.now }
+    ensures fault { (j : Job) (o : Asked) → AreEnds (λ own. own.items) j o ends.now →
+        IfSome result (IsFaultOf j.plan.parts o) }
 {
-    let Some(mut replica) = next else {
-        return Ok(false);
-    };
-    replica.give_back();
-    done.push(replica)?;
-    Ok(true)
+    let mut faults = Faults::none();
+    let mut complete = true;
+    let mut p = 0;
+    for own in ends {
+        complete = note_part(&mut faults, p, own) && complete;
+        p += 1;
+    }
+    if complete { None } else { Some(faults.first()) }
+}
+
+// The replica of the first of two nodes that has reached the end.
+fn first_done(done: Option<Replica>, end: NodeResult) -> Option<Replica>
+    ensures { result ≡ first_some done (done_of end) }
+{
+    match end {
+        Ok(NodeEnd::Done(replica)) => Some(done.unwrap_or(replica)),
+        _ => done,
+    }
+}
+
+// The replica of the first node of a partition that has reached the end.
+fn done_replica(ends: Vec<NodeResult>) -> Option<Replica>
+    ensures { result ≡ first_done ends.items }
+{
+    let mut done = None;
+    for end in ends {
+        done = first_done(done, end);
+    }
+    done
+}
+
+// The replica of each partition, each of which has a node that has reached the end. The error is that memory was
+// refused.
+fn collect_done(alloc: Global, ends: Vec<Vec<NodeResult>>) -> Result<Vec<Replica>, AllocError>
+    requires { each_has_done (λ own. own.items) ends.items ≡ true }
+    ensures { (j : Job) (o : Asked) → AreEnds (λ own. own.items) j o ends.items →
+        IfOk result (λ rs. AreDone j rs.items) }
+{
+    let mut replicas = Vec::with_capacity(alloc, ends.len())?;
+    for own in ends {
+        let Some(mut replica) = done_replica(own) else {
+            unreachable!()
+        };
+        replica.give_back();
+        replicas.push(replica)?;
+    }
+    Ok(replicas)
 }
 
 /// The replica of each partition, by the ends of its nodes: that of the first node that is done. Where a partition has
-/// none, and only there, the error is the first fault of all nodes; `Memory` also where memory is refused here.
+/// none, the error is the first fault of all nodes; else it is `Memory`, where that is refused here.
 pub fn done_replicas(alloc: Global, ends: Vec<Vec<NodeResult>>) -> Result<Vec<Replica>, JobError>
     requires few { All (λ own. length own.items ≤ MOST_REPLICAS) ends.items }
     requires parts { length ends.items ≤ most_parts }
@@ -221,19 +256,12 @@ pub fn done_replicas(alloc: Global, ends: Vec<Vec<NodeResult>>) -> Result<Vec<Re
         e ≡ first_fault (λ own. own.items) ends.items) }
     ensures lacking { IfErr result (λ e. e ≢ JobError.Memory →
         each_has_done (λ own. own.items) ends.items ≡ false) }
+    ensures exact { each_has_done (λ own. own.items) ends.items ≡ false →
+        result ≡ Err (first_fault (λ own. own.items) ends.items) }
 {
-    let mut faults = Faults::none();
-    let mut done = Vec::with_capacity(alloc, ends.len())?;
-    let mut complete = true;
-    let mut p = 0;
-    for own in ends {
-        let next = done_replica(p, own, &mut faults);
-        complete = keep_done(&mut done, next)? && complete;
-        p += 1;
-    }
-    if complete {
-        Ok(done)
-    } else {
-        Err(faults.first())
+    let fault = fault_in(&ends);
+    match fault {
+        Some(fault) => Err(fault),
+        None => Ok(collect_done(alloc, ends)?),
     }
 }

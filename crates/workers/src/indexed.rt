@@ -86,6 +86,16 @@ impl Model for ReadyPart {
 }
 
 impl ReadyPart {
+    /// A part without its index.
+    pub(crate) fn of(part: Arc<Part>) -> ReadyPart
+        ensures { result ≡ arc_value part }
+    {
+        ReadyPart {
+            part,
+            targets: None,
+        }
+    }
+
     /// The part.
     pub(crate) fn part(&self) -> &Arc<Part>
         ensures { arc_value result.now ≡ self.now }

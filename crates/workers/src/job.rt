@@ -1,21 +1,23 @@
 //! All nodes of a job: a thread for each, and one board between them.
 
-ghost use Rattle.std.specs.Prelude.{◌≡◌, ◌<◌, ◌≤◌, ◌+◌, ◌*◌, ℕ, true, IfOk, IfErr, IfSome, OnOk};
-ghost use Rattle.std.specs.Prelude.{[]};
+ghost use Rattle.std.specs.Prelude.{◌≡◌, ◌≢◌, ◌<◌, ◌≤◌, ◌+◌, ◌*◌, ℕ, true, IfOk, IfErr, IfSome};
+ghost use Rattle.std.specs.Prelude.{OnOk, []};
+ghost use Rattle.ball_model.specs.History.{calls_by};
 ghost use Rattle.ball_model.specs.Job.{Job, IsJob, job_of, part_of};
 ghost use Rattle.ball_model.specs.declared.plan.TheConstants.{MOST_REPLICAS};
-ghost use Rattle.workers.specs.Job.{AreDone, AreEnds, AreParts, AreStarted, HasSplit, IsFaultOf};
+ghost use Rattle.workers.specs.Job.{AreDone, AreEnds, AreParts, AreStarted, HasRun, HasSplit};
+ghost use Rattle.workers.specs.Job.{IsFaultOf, IsFirstFault};
 ghost use Rattle.workers.specs.Job.{IsPartEnd, IsAssigned, IsPartStarted, IsSeatOf, KeepsItsOrders};
 ghost use Rattle.workers.specs.Job.{job_in};
 ghost use Rattle.workers.specs.Options.{are_in_limits, order_for, orders_for};
 ghost use Rattle.workers.specs.declared.options.RunOptions.{RunOptions as Asked};
 
 use crate::assignment::{Assignment, NodeResult};
-use crate::ends::{JobError, done_replicas};
+use crate::ends::{JobError, done_replicas, is_done};
 use crate::exchange::BoardExchange;
 use crate::gate::Gate;
 use crate::indexed::ReadyPart;
-use crate::node::{NodeEnd, NodeError, NodeOrders, run_ready};
+use crate::node::{NodeError, NodeOrders, run_ready};
 use crate::options::RunOptions;
 use crate::planned::SharedPart;
 use crate::running::{RunGate, Running};
@@ -57,11 +59,6 @@ fn orders_for(options: &RunOptions, node: NodeId) -> NodeOrders
     }
 }
 
-// Whether a node has reached the end of the run.
-fn is_done(end: &NodeResult) -> bool {
-    matches!(end, Ok(NodeEnd::Done(_)))
-}
-
 // A node, and its orders.
 #[derive(Clone, Copy)]
 struct Duty {
@@ -80,10 +77,12 @@ fn run_at<R: AllocGlobal + Threads + Wait + Sync, G: Gate>(
     duty: Duty,
 ) -> NodeResult
     requires seat { IsSeatOf board.now seat.caller.seen.job seat }
+    requires start { calls_by seat.caller.number seat.caller.seen ≡ [] }
     requires job { IsJob seat.caller.seen.job }
     requires node { duty.node.part < seat.caller.seen.job.plan.parts }
     requires part { part ≡ part_of seat.caller.seen.job duty.node.part }
-    ensures { KeepsItsOrders seat.caller.seen.job duty.node.part duty.orders result }
+    ensures orders { KeepsItsOrders seat.caller.seen.job duty.node.part duty.orders result }
+    ensures ran { HasRun seat.caller.seen.job board.now.limit duty.node.part duty.orders result }
 {
     let mut exchange = BoardExchange::new(board, seat);
     let gate = RunGate::new(gate, running);
@@ -115,6 +114,8 @@ fn start_node<'s, 'a: 's, X, R: AllocGlobal + Threads + Wait + Sync, G: Gate + S
     assigned: Assignment,
 ) -> Child
     requires seat { IsSeatOf board.now (job_in assigned) seat }
+    requires start { calls_by seat.caller.number seat.caller.seen ≡ [] }
+    requires entries { assigned.entries ≡ board.now.limit }
     requires job { IsJob (job_in assigned) }
     requires node { assigned.node.part < (job_in assigned).plan.parts }
     requires part { part ≡ part_of (job_in assigned) assigned.node.part }
@@ -126,10 +127,13 @@ fn start_node<'s, 'a: 's, X, R: AllocGlobal + Threads + Wait + Sync, G: Gate + S
     };
     let work = move || -> NodeResult
         requires seat { IsSeatOf board.now seat.caller.seen.job seat }
+        requires start { calls_by seat.caller.number seat.caller.seen ≡ [] }
         requires job { IsJob seat.caller.seen.job }
         requires node { duty.node.part < seat.caller.seen.job.plan.parts }
         requires part { part ≡ part_of seat.caller.seen.job duty.node.part }
-        ensures { KeepsItsOrders seat.caller.seen.job duty.node.part duty.orders result }
+        ensures orders { KeepsItsOrders seat.caller.seen.job duty.node.part duty.orders result }
+        ensures ran { HasRun seat.caller.seen.job board.entry.now.limit duty.node.part duty.orders
+            result }
     { run_at(rt, board, seat, gate, running, part, duty) };
     let child = scope.spawn_with(assigned, work).ok();
     if child.is_none() {
@@ -157,6 +161,7 @@ fn start_part<'s, 'a: 's, X, R: AllocGlobal + Threads + Wait + Sync, G: Gate + S
     requires part { IfOk part.old (λ part.
         part ≡ part_of (job_of graph.now.graph plan.now) p) }
     requires few { options.now.replicas ≤ MOST_REPLICAS }
+    requires entries { options.now.entries ≡ board.now.limit }
     requires seat { HasSplit board.now (job_of graph.now.graph plan.now) (MOST_REPLICAS * p)
         first.old }
     ensures seat { HasSplit board.now (job_of graph.now.graph plan.now) (MOST_REPLICAS * (p + 1))
@@ -176,6 +181,7 @@ fn start_part<'s, 'a: 's, X, R: AllocGlobal + Threads + Wait + Sync, G: Gate + S
             plan: *plan,
             node,
             orders: orders_for(options, node),
+            entries: options.entries,
         };
         let part = part.hand_out(rt.alloc())?;
         let seat = first.split(board);
@@ -200,6 +206,7 @@ fn start_each<'s, 'a: 's, X, R: AllocGlobal + Threads + Wait + Sync, G: Gate + S
 ) -> Result<(), AllocError>
     requires job { IsJob (job_of graph.now.graph plan.now) }
     requires few { options.now.replicas ≤ MOST_REPLICAS }
+    requires entries { options.now.entries ≡ board.now.limit }
     requires seat { HasSplit board.now (job_of graph.now.graph plan.now) 0 first.old }
     requires parts { AreParts (job_of graph.now.graph plan.now) parts.old }
     requires none { children.old.items ≡ [] }
@@ -231,6 +238,7 @@ fn start_all<'s, 'a: 's, X, R: AllocGlobal + Threads + Wait + Sync, G: Gate + Sy
 ) -> Result<Vec<Vec<Child>>, AllocError>
     requires job { IsJob (job_of graph.now.graph plan.now) }
     requires few { options.now.replicas ≤ MOST_REPLICAS }
+    requires entries { options.now.entries ≡ board.now.limit }
     requires parts { AreParts (job_of graph.now.graph plan.now) parts.old }
     requires seat { HasSplit board.now (job_of graph.now.graph plan.now) 0 first.old }
     ensures { IfOk result (λ all. AreStarted (λ child. child.promise) (λ own. own.items)
@@ -268,6 +276,7 @@ fn start_or_stop<'s, 'a: 's, X, R: AllocGlobal + Threads + Wait + Sync, G: Gate 
 ) -> Result<Vec<Vec<Child>>, AllocError>
     requires job { IsJob (job_of graph.now.graph plan.now) }
     requires few { options.now.replicas ≤ MOST_REPLICAS }
+    requires entries { options.now.entries ≡ board.now.limit }
     requires parts { AreParts (job_of graph.now.graph plan.now) parts.old }
     requires seat { HasSplit board.now (job_of graph.now.graph plan.now) 0 first }
     ensures { IfOk result (λ all. AreStarted (λ child. child.promise) (λ own. own.items)
@@ -284,8 +293,12 @@ fn start_or_stop<'s, 'a: 's, X, R: AllocGlobal + Threads + Wait + Sync, G: Gate 
 
 // The end of a node, once its thread has ended; a node without a thread ended for want of memory.
 fn end_of<R: Threads>(rt: &R, child: Child) -> NodeResult
-    ensures { (j : Job) (o : Asked) (p k : ℕ) → IfSome child (λ h. IsAssigned j o p k h.promise) →
+    ensures orders { (j : Job) (o : Asked) (p k : ℕ) →
+        IfSome child (λ h. IsAssigned j o p k h.promise) →
         KeepsItsOrders j p (orders_for o p k) result }
+    ensures ran { (j : Job) (o : Asked) (p k : ℕ) → p < j.plan.parts →
+        IfSome child (λ h. IsAssigned j o p k h.promise) →
+        HasRun j o.entries p (orders_for o p k) result }
 {
     match child {
         Some(child) => child.join(rt),
@@ -341,10 +354,13 @@ fn run_in<'s, 'a: 's, X, R: AllocGlobal + Threads + Wait + Sync, G: Gate + Sync>
 ) -> Result<Vec<Replica>, JobError>
     requires job { IsJob (job_of graph.now.graph plan.now) }
     requires few { options.now.replicas ≤ MOST_REPLICAS }
+    requires entries { options.now.entries ≡ board.now.limit }
     requires parts { AreParts (job_of graph.now.graph plan.now) parts.old }
     requires seat { HasSplit board.now (job_of graph.now.graph plan.now) 0 first }
     ensures done { IfOk result (λ rs. AreDone (job_of graph.now.graph plan.now) rs.items) }
     ensures fault { IfErr result (IsFaultOf plan.now.parts options.now) }
+    ensures first { IfErr result (λ e. e ≢ JobError.Memory →
+        IsFirstFault (job_of graph.now.graph plan.now) options.now e) }
 {
     let children = start_or_stop(
         rt, scope, board, first, gate, running, graph, plan, options, parts,
@@ -368,6 +384,8 @@ pub fn run_job<R: AllocGlobal + Threads + Wait + Sync, G: Gate + Sync>(
     requires limits { are_in_limits options.now ≡ true }
     ensures done { IfOk result (λ rs. AreDone (job_of graph.now.graph plan.now) rs.items) }
     ensures fault { IfErr result (IsFaultOf plan.now.parts options.now) }
+    ensures first { IfErr result (λ e. e ≢ JobError.Memory →
+        IsFirstFault (job_of graph.now.graph plan.now) options.now e) }
 {
     let (board, first) = Board::open(rt.alloc(), graph, plan, options.entries)?;
     let board = &board;
@@ -384,11 +402,14 @@ pub fn run_job<R: AllocGlobal + Threads + Wait + Sync, G: Gate + Sync>(
         |scope| -> Result<Vec<Replica>, JobError>
             requires job { IsJob (job_of graph.now.graph plan.now) }
             requires few { options.now.replicas ≤ MOST_REPLICAS }
+            requires entries { options.now.entries ≡ board.now.limit }
             requires parts { AreParts (job_of graph.now.graph plan.now) parts.now }
             requires seat { HasSplit board.now (job_of graph.now.graph plan.now) 0 first }
             ensures done { IfOk result (λ rs.
                 AreDone (job_of graph.entry.now.graph plan.entry.now) rs.items) }
             ensures fault { IfErr result (IsFaultOf plan.entry.now.parts options.entry.now) }
+            ensures first { IfErr result (λ e. e ≢ JobError.Memory → IsFirstFault
+                (job_of graph.entry.now.graph plan.entry.now) options.entry.now e) }
         {
             run_in(
                 rt, scope, board, first, gate, running, graph, plan, options, parts,

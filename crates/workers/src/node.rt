@@ -9,8 +9,7 @@ ghost use Rattle.ball_model.specs.Caller.{Extends, IsCaller, IsFull};
 ghost use Rattle.workers.specs.declared.node.NodeError.TheVariants.{BookFull, Memory};
 ghost use Rattle.workers.specs.Node.{FallsDue, HasToldAll, IfDone, IfLost, IfStarved, IsDone};
 ghost use Rattle.workers.specs.Node.{WasMissing};
-ghost use Rattle.workers.specs.Tie.{HasCome, HasGone, IsNodePath, IsPathTo};
-ghost use Rattle.workers.specs.Job.{KeepsItsOrders};
+ghost use Rattle.workers.specs.Tie.{HasCome, HasGone, HasReached, IsNodePath, IsPathTo};
 ghost use Rattle.workers.specs.Superstep.{EndsAs, IsAnew, IsFate, IsFirst, IsPartOf, StandsIn};
 ghost use Rattle.workers.specs.Superstep.{early_end, end_with};
 ghost use Rattle.replica.specs.Sent.{batch_name};
@@ -258,6 +257,8 @@ pub fn run_node<R: AllocGlobal + Threads + Wait + Sync, E: Exchange, G: Gate>(
     ensures told { IfOk result (λ end. IfDone end (λ r. HasToldAll (E.caller exchange.old)
         r.superstep node.part (E.caller exchange.new))) }
     ensures lost { IfOk result (λ end. IfLost end (FallsDue orders.now.lose)) }
+    ensures reached { IfOk result (λ end. IfLost end (λ s.
+        HasReached (E.caller exchange.old) node.part s (E.caller exchange.new))) }
     ensures spared { IfOk result (λ end. IfDone end (λ r.
         FallsDue orders.now.lose r.superstep → ⊥)) }
     ensures starved { IfOk result (λ end. IfStarved end (λ s q.
@@ -275,12 +276,12 @@ pub fn run_node<R: AllocGlobal + Threads + Wait + Sync, E: Exchange, G: Gate>(
     ensures alone_fits { (E.caller exchange.old).seen.job.plan.parts ≡ 1 → orders.now.keep ≡ 0 →
         orders.now.restart ≡ None → result ≢ Err BookFull }
 {
-    let replica = first_replica(rt.alloc(), &part)?;
-    let threads = share_of(threads_for(rt, 0), replica.plan().parts(), 1);
-    run_from(rt, exchange, gate, node, &part, orders, threads, replica)
+    let threads = share_of(threads_for(rt, 0), part.plan().parts(), 1);
+    let part = ReadyPart::of(part);
+    run_ready(rt, exchange, gate, node, part, orders, threads)
 }
 
-/// Runs a node of a partition as [`run_node`] does, by a part that is ready for it, and in so many threads.
+/// Runs a node of a partition as [`run_node`] says, by a part that is ready for it, and in so many threads.
 pub(crate) fn run_ready<R: AllocGlobal + Threads + Wait + Sync, E: Exchange, G: Gate>(
     rt: &R,
     exchange: &mut E,
@@ -294,7 +295,11 @@ pub(crate) fn run_ready<R: AllocGlobal + Threads + Wait + Sync, E: Exchange, G: 
     requires job { IsJob (E.caller exchange.old).seen.job }
     requires node { node.part < (E.caller exchange.old).seen.job.plan.parts }
     requires part { part ≡ part_of (E.caller exchange.old).seen.job node.part }
-    ensures { KeepsItsOrders (E.caller exchange.old).seen.job node.part orders.now result }
+    ensures seen { Extends (E.caller exchange.old) (E.caller exchange.new) }
+    ensures ends { EndsAs (E.caller exchange.old) node.part orders.now.lose result
+        (E.caller exchange.new) }
+    ensures fits { (E.caller exchange.old).seen.job.plan.parts ≡ 1 → orders.now.keep ≡ 0 →
+        orders.now.restart ≡ None → result ≢ Err BookFull }
 {
     let shared = Arc::try_clone(part.part())?;
     let replica = part.into_replica(rt.alloc())?;

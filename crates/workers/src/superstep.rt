@@ -1,6 +1,7 @@
 //! One superstep of a node.
 
-ghost use Rattle.std.specs.Prelude.{◌≡◌, ◌≢◌, ◌⊎◌, ◌<◌, ℕ, true, false, None, Err, IfErr, IfOk};
+ghost use Rattle.std.specs.Prelude.{◌≡◌, ◌≢◌, ◌⊎◌, ◌<◌, ◌≤◌, ℕ, true, false, None, Err, IfErr};
+ghost use Rattle.std.specs.Prelude.{IfOk};
 ghost use Rattle.std.specs.Prelude.{OnErr, OnOk};
 ghost use Rattle.std.specs.Arc.{arc_value};
 ghost use Rattle.ball_model.specs.Batches.{true_batch};
@@ -15,8 +16,8 @@ ghost use Rattle.ball_model.specs.Job.{Job};
 ghost use Rattle.ball_model.specs.State.{StandsFor};
 ghost use Rattle.replica.specs.Level.{EndsRun, found_verdict, missing_in};
 ghost use Rattle.workers.specs.declared.superstep.SuperstepEnd.TheVariants as superstep_end;
-ghost use Rattle.workers.specs.Superstep.{DropsBefore, HasRecalled, IsFound, IsSuperstepEnd};
-ghost use Rattle.workers.specs.Superstep.{StandsIn};
+ghost use Rattle.workers.specs.Superstep.{DropsBefore, HasKept, HasRecalled, IsFound, IsSuperstepEnd};
+ghost use Rattle.workers.specs.Superstep.{StandsIn, is_kept_at};
 ghost use Rattle.replica.specs.Sent.{AreChanged, batch_name};
 ghost use Rattle.workers.specs.Tie.{HasCome, HasGone};
 
@@ -95,6 +96,13 @@ fn shared_snapshot(alloc: Global, replica: &mut Replica) -> Result<Arc<Snapshot>
     Ok(Arc::new(alloc, replica.snapshot(alloc)?)?)
 }
 
+// Whether a snapshot is kept at a superstep: it is a multiple of `every`, and that is not 0.
+fn is_kept_at(every: u32, superstep: u32) -> bool
+    ensures { result ≡ is_kept_at every superstep }
+{
+    every != 0 && superstep % every == 0
+}
+
 // Keeps a snapshot at each superstep that is a multiple of `every`, and none where that is 0.
 fn keep_snapshot<R: AllocGlobal + Wait, E: Exchange>(
     rt: &R,
@@ -107,6 +115,10 @@ fn keep_snapshot<R: AllocGlobal + Wait, E: Exchange>(
     requires stands { StandsIn (E.caller exchange.old) node.part replica.old }
     ensures seen { Extends (E.caller exchange.old) (E.caller exchange.new) }
     ensures same { replica.new ≡ replica.old }
+    ensures kept { is_kept_at every replica.old.superstep ≡ true → OnOk result (
+        HasKept (E.caller exchange.old) (holding_in replica.old) (E.caller exchange.new)) }
+    ensures unkept { is_kept_at every replica.old.superstep ≡ false →
+        CalledNothing (E.caller exchange.old) (E.caller exchange.new) }
     ensures came { OnOk result (HasCome (E.caller exchange.old) node.part (holding_in replica.old)
         (holding_in replica.new) (E.caller exchange.new)) }
     ensures gone { OnErr result (HasGone (E.caller exchange.old) node.part (holding_in replica.old)
@@ -114,7 +126,7 @@ fn keep_snapshot<R: AllocGlobal + Wait, E: Exchange>(
     ensures full { IfErr result (λ e. e ≡ BookFull → IsFull (E.caller exchange.new)) }
     ensures never { every ≡ 0 → result ≢ Err BookFull }
 {
-    if every == 0 || replica.superstep() % every != 0 {
+    if !is_kept_at(every, replica.superstep()) {
         return Ok(());
     }
     let snapshot = shared_snapshot(rt.alloc(), replica)?;
@@ -237,10 +249,11 @@ fn drop_old<R: Wait, E: Exchange>(
 ) -> Result<(), NodeError>
     requires caller { IsCaller (E.caller exchange.old) }
     ensures seen { Extends (E.caller exchange.old) (E.caller exchange.new) }
-    ensures came { (p : ℕ) (h : Holding) →
+    ensures came { (p : ℕ) (h : Holding) → superstep ≤ h.superstep →
         HasCome (E.caller exchange.old) p h h (E.caller exchange.new) }
     ensures full { IfErr result (λ e. e ≡ BookFull → IsFull (E.caller exchange.new)) }
     ensures never { every ≡ 0 → result ≢ Err BookFull }
+    ensures unkept { every ≢ 1 → CalledNothing (E.caller exchange.old) (E.caller exchange.new) }
     ensures dropped { OnOk result (DropsBefore (E.caller exchange.old) superstep
         (E.caller exchange.new)) }
 {

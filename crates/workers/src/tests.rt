@@ -1,5 +1,6 @@
 //! What no clause says: worked runs of one node and of many.
 
+mod counts;
 mod estimates;
 mod gates;
 mod losses;

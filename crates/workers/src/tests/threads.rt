@@ -62,8 +62,8 @@ fn add_label(text: &mut Vec<u8>, v: u32) -> Result<(), AllocError> {
     Ok(())
 }
 
-/// A tree of 5,000 vertices, each with an edge to the one of half its number: at the first supersteps so many of them
-/// change that the work is shared out.
+/// A tree of 5,000 vertices, each with an edge to the one of half its number. Few bytes of rows change at a superstep, far
+/// fewer than threads are started for: so each node closes it alone, however many threads it may use.
 fn large_tree(alloc: Global) -> Result<Vec<u8>, AllocError> {
     let mut text = Vec::new(alloc);
     for v in 2..5_001u32 {

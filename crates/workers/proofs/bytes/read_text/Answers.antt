@@ -6,7 +6,7 @@ use Rattle.workers.specs.declared.bytes.RunError.{RunError}
 use Rattle.workers.specs.Options.{run_numbers_of, run_settings_of}
 use Rattle.workers.specs.Run.{IsRunRefusal, RefusesRead}
 use Rattle.workers.proofs.PathLemmas.{err_as}
-use Rattle.workers.proofs.RunLemmas.{never_write, refused, refuses_read, reported, where_always, where_weaker}
+use Rattle.workers.proofs.RunLemmas.{never_write, read_first, refused, refuses_read, reported, where_always, where_weaker}
 use Rattle.workers.proofs.bytes.read_text.Goals as goal
 
 pub returns-in_err-read : goal.returns-in_err-read
@@ -23,6 +23,7 @@ returns-in_err-read g c =
       read = rw (p.1, p.2) (λ is. c.in_err-read.ensures.read (err_as _ _ is));
       failed = rw (p.1, p.2) (λ rises. err_as _ _ (c.in_err-read.ensures.failed rises));
       fault = rw (p.1, p.2) c.in_err-read.ensures.fault;
+      first = rw (p.1, p.2) (read_first o told c.args.counted e c.in_err-read.ensures.refused);
     }
 
 pub returns-clause-ok : goal.returns-clause-ok

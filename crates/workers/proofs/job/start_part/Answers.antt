@@ -14,7 +14,7 @@ loop-replica-preserved g c =
     let i = c.loop-replica.invariant in
     let split = split_more c.args.board.now j (MOST_REPLICAS * p + k) _ _ i.0 c.split-seat.ensures.kept c.split-seat.ensures.left in
     let next : MOST_REPLICAS * p + k + 1 ≡ MOST_REPLICAS * p + (k + 1) = omega arith in
-    let assigned = some_weaker c.start_node.result _ _ (λ h is. subst (IsAssigned j o p k) (sym is) (record { job = ap (λ v. job_of v.graph c.args.plan.now) c.of.ensures; part = refl; orders = c.orders_for.ensures })) c.start_node.ensures in (
+    let assigned = some_weaker c.start_node.result _ _ (λ h is. subst (IsAssigned j o p k) (sym is) (record { job = ap (λ v. job_of v.graph c.args.plan.now) c.of.ensures; part = refl; orders = c.orders_for.ensures; entries = refl })) c.start_node.ensures in (
       subst (λ (n : ℕ). HasSplit c.args.board.now j n c.split-seat.new.self) next split,
       subst (Starting (λ h. h.promise) j o p (k + 1)) (sym c.in_ok-push.ensures.items) (starting_more (λ h. h.promise) j o p k c.loop-replica.children.items c.start_node.result i.1 assigned),
       c.in_ok-part.ensures.same ∙ i.2,

@@ -162,3 +162,6 @@ returns-in-Starved-clause-full g c = tt
 
 pub returns-in-Starved-clause-alone : goal.returns-in-Starved-clause-alone
 returns-in-Starved-clause-alone g c = λ _ _ _. ok_is_no_err _ _
+
+pub returns-then-falls_due-clause-fate : goal.returns-then-falls_due-clause-fate
+returns-then-falls_due-clause-fate g c = (c.falls_due.ensures.due c.if-falls_due.true, c.superstep-superstep.ensures.value)

@@ -1,5 +1,11 @@
-use Rattle.std.proofs.Common.{◌∙◌}
+use Rattle.std.proofs.Common.{◌∙◌, subst, sym}
+use Rattle.std.proofs.lemmas.Result.{err_from_is_err_and}
+use Rattle.std.specs.Prelude.{Result}
 use Rattle.ball_model.specs.Caller.{Caller}
+use Rattle.workers.specs.declared.node.NodeEnd.{NodeEnd}
+use Rattle.workers.specs.declared.node.NodeError.{NodeError}
+use Rattle.workers.specs.Superstep.{EndsAs}
+use Rattle.workers.proofs.NodeLemmas.{out_of_memory}
 use Rattle.workers.proofs.node.run_ready.Goals as goal
 
 pub run_from-requires-clause-part : goal.run_from-requires-clause-part
@@ -10,7 +16,14 @@ run_from-requires-clause-first g c κs within =
     let v : Caller = g.E.Exchange.caller c.args.exchange.now in
     c.in_ok-replica.ensures v.seen.job c.args.node.part c.requires.job c.requires.node c.requires.part
 
-pub returns : goal.returns
-returns g c =
-    let end = c.run_from.ensures.ends in
-    record { done = end.done; lost = end.lost; alone = end.alone; alone_fits = c.run_from.ensures.fits }
+pub returns-in_err-shared-clause-ends : goal.returns-in_err-shared-clause-ends
+returns-in_err-shared-clause-ends g c =
+    let v : Caller = g.E.Exchange.caller c.args.exchange.now in
+    let p = err_from_is_err_and c.from_residual.result c.from_residual.ensures.1 in
+    subst (λ (r : Result NodeEnd NodeError). EndsAs v c.args.node.part c.args.orders.now.lose r v) (sym p.1) (out_of_memory v c.args.node.part c.args.orders.now.lose _ p.2)
+
+pub returns-in_err-replica-clause-ends : goal.returns-in_err-replica-clause-ends
+returns-in_err-replica-clause-ends g c =
+    let v : Caller = g.E.Exchange.caller c.args.exchange.now in
+    let p = err_from_is_err_and c.from_residual-in_err-replica.result c.from_residual-in_err-replica.ensures.1 in
+    subst (λ (r : Result NodeEnd NodeError). EndsAs v c.args.node.part c.args.orders.now.lose r v) (sym p.1) (out_of_memory v c.args.node.part c.args.orders.now.lose _ p.2)

@@ -1,4 +1,4 @@
-use Rattle.std.proofs.Common.{inl, inr, refl}
+use Rattle.std.proofs.Common.{arith, inl, inr, refl}
 use Rattle.workers.proofs.PathLemmas.{come_by_call, come_nowhere}
 use Rattle.workers.proofs.superstep.drop_old.Goals as goal
 
@@ -9,10 +9,10 @@ pub returns-clause-dropped : goal.returns-clause-dropped
 returns-clause-dropped g c = inr c.in_ok-drop_below.ensures.ok
 
 pub returns-then-every-ne1-clause-came : goal.returns-then-every-ne1-clause-came
-returns-then-every-ne1-clause-came g c = λ p h. come_nowhere _ _ p h refl
+returns-then-every-ne1-clause-came g c = λ p h at. come_nowhere _ _ p h refl
 
 pub returns-in_err-drop_below-clause-came : goal.returns-in_err-drop_below-clause-came
-returns-in_err-drop_below-clause-came g c = λ p h. come_nowhere _ _ p h c.in_err-drop_below.ensures.refused
+returns-in_err-drop_below-clause-came g c = λ p h at. come_nowhere _ _ p h c.in_err-drop_below.ensures.refused
 
 pub returns-clause-came : goal.returns-clause-came
-returns-clause-came g c = λ p h. come_by_call _ _ p _ h h c.in_ok-drop_below.ensures.ok tt refl
+returns-clause-came g c = λ p h at. come_by_call _ _ p _ h h c.in_ok-drop_below.ensures.ok tt refl (omega (arith, at))

@@ -1,13 +1,14 @@
-use Rattle.std.proofs.Common.{◌∙◌, ℕ, ap, refl, sym, subst}
+use Rattle.std.proofs.Common.{◌∙◌, ◌+◌, ◌<◌, ℕ, ap, refl, sym, subst}
 use Rattle.std.proofs.lemmas.Result.{err_from_is_err_and}
 use Rattle.ball_model.specs.Caller.{Caller}
 use Rattle.ball_model.specs.State.{State}
 use Rattle.replica.specs.Sent.{batch_name}
 use Rattle.workers.specs.Node.{WasMissing}
+use Rattle.workers.specs.Superstep.{HasRecalled}
 use Rattle.ball_model.proofs.CheckLemmas.{on_err}
 use Rattle.workers.proofs.PathLemmas.{come_nowhere, come_past, come_then, gone_then, ok_is_no_err}
 use Rattle.workers.proofs.SeenLemmas.{caller_of, extends_self, extends_trans, missing_before, missing_later}
-use Rattle.workers.proofs.SuperstepLemmas.{missing_source, no_other, stands_back, stands_later}
+use Rattle.workers.proofs.SuperstepLemmas.{is_further, missing_source, no_other, stands_back, stands_later}
 use Rattle.workers.proofs.superstep.hear_all.Goals as goal
 
 pub returns-in_err-find-clause-alone : goal.returns-in_err-find-clause-alone
@@ -197,4 +198,11 @@ pub returns-in_default-clause-found : goal.returns-in_default-clause-found
 returns-in_default-clause-found g c = (sym c.missing.ensures ∙ c.in_default.is, c.loop.invariant.2)
 
 pub returns-then-branch-2-clause-found : goal.returns-then-branch-2-clause-found
-returns-then-branch-2-clause-found g c = tt
+returns-then-branch-2-clause-found g c =
+    let caller = g.E.Exchange.caller in
+    let v : Caller = caller c.find.new.exchange in
+    let w : Caller = caller c.catch_up.new.exchange in
+    let r : State = c.catch_up.new.replica in
+    let s : ℕ = c.find.new.replica.superstep in
+    let found = subst (λ (n : ℕ). HasRecalled v c.args.node.part n s r.superstep w) (ap (λ (n : ℕ). n + 1) c.superstep.ensures.value) (c.in_ok-catch_up.ensures.found c.if-branch-2.true) in
+    subst (λ (n : ℕ). n < r.superstep) (c.find.ensures.superstep ∙ c.loop.invariant.2) (is_further v w c.args.node.part s s r.superstep found c.catch_up.ensures.seen)

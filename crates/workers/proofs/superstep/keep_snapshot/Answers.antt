@@ -10,8 +10,8 @@ keep-requires g c =
     let v = g.E.Exchange.caller c.args.exchange.now in
     record { snapshot = same_stands v.seen.job c.args.node.part c.args.replica.now _ c.requires.stands c.in_ok-snapshot.ensures.same }
 
-pub returns-then-every-eq0-clause-came : goal.returns-then-every-eq0-clause-came
-returns-then-every-eq0-clause-came g c = come_nowhere _ _ _ _ refl
+pub returns-then-not-is_kept_at-clause-came : goal.returns-then-not-is_kept_at-clause-came
+returns-then-not-is_kept_at-clause-came g c = come_nowhere _ _ _ _ refl
 
 pub returns-in_err-snapshot-clause-gone : goal.returns-in_err-snapshot-clause-gone
 returns-in_err-snapshot-clause-gone g c = on_err c.from_residual.result (gone_nowhere _ _ _ _ refl)
@@ -20,4 +20,4 @@ pub returns-in_err-keep-clause-gone : goal.returns-in_err-keep-clause-gone
 returns-in_err-keep-clause-gone g c = on_err c.from_residual-in_err-keep.result (gone_nowhere _ _ _ _ c.in_err-keep.ensures.refused)
 
 pub returns-clause-came : goal.returns-clause-came
-returns-clause-came g c = come_by_call _ _ _ _ _ _ c.in_ok-keep.ensures.ok (ap holding_in c.in_ok-snapshot.ensures.same) (ap holding_in (sym c.shared_snapshot.ensures.unchanged))
+returns-clause-came g c = come_by_call _ _ _ _ _ _ c.in_ok-keep.ensures.ok (ap holding_in c.in_ok-snapshot.ensures.same) (ap holding_in (sym c.shared_snapshot.ensures.unchanged)) tt

@@ -10,7 +10,7 @@ use Rattle.ball_model.proofs.CheckLemmas.{on_err}
 use Rattle.workers.proofs.PathLemmas.{come_by_close, come_then, err_not_as, gone, gone_then, ok_is_no_err}
 use Rattle.workers.proofs.SeenLemmas.{caller_of, extends_trans, told_between, waiting_before}
 use Rattle.ball_model.specs.History.{holding_in}
-use Rattle.workers.proofs.SuperstepLemmas.{closed_end, stands_back, stands_later}
+use Rattle.workers.proofs.SuperstepLemmas.{at_level, closed_end, stands_back, stands_later}
 use Rattle.workers.proofs.superstep.run_superstep.Goals as goal
 
 pub keep_snapshot-requires : goal.keep_snapshot-requires
@@ -79,7 +79,7 @@ returns-in_err-drop_old g c =
       end = rw (p.1) tt;
       over = rw (p.1) tt;
       came = rw (p.1) tt;
-      gone = on_err c.from_residual-in_err-drop_old.result (gone_then _ _ _ _ _ _ seen told (gone _ _ part h h (c.drop_old.ensures.came part h)));
+      gone = on_err c.from_residual-in_err-drop_old.result (gone_then _ _ _ _ _ _ seen told (gone _ _ part h h (c.drop_old.ensures.came part h (at_level c.keep_snapshot.new.replica c.superstep.result c.superstep.ensures.value))));
       full = rw (p.1, p.2) c.in_err-drop_old.ensures.full;
       alone = λ _ none. rw (p.1, p.2) (err_not_as _ _ (c.in_err-drop_old.ensures.never none));
     }
@@ -90,7 +90,7 @@ returns-in_err-hear_all g c =
     let h = holding_in c.keep_snapshot.new.replica in
     let told = come_then _ _ _ _ _ _ _ c.keep_snapshot.ensures.seen c.in_ok-keep_snapshot.ensures.came c.in_ok-tell_all.ensures.came in
     let seen = extends_trans _ _ _ c.keep_snapshot.ensures.seen c.tell_all.ensures.seen in
-    let dropped = come_then _ _ _ _ _ _ _ seen told (c.drop_old.ensures.came c.args.node.part h) in
+    let dropped = come_then _ _ _ _ _ _ _ seen told (c.drop_old.ensures.came c.args.node.part h (at_level c.keep_snapshot.new.replica c.superstep.result c.superstep.ensures.value)) in
     let now = extends_trans _ _ _ seen c.drop_old.ensures.seen in
     record {
       seen = extends_trans _ _ _ now c.hear_all.ensures.seen;
@@ -117,7 +117,7 @@ returns-in-Level g c =
     let found = subst (λ (f : Found). IsFound (caller c.drop_old.new.exchange) p s r f w) c.in-Level.is c.in_ok-hear_all.ensures.found in
     let told = come_then _ _ _ _ _ _ _ c.keep_snapshot.ensures.seen c.in_ok-keep_snapshot.ensures.came c.in_ok-tell_all.ensures.came in
     let seen = extends_trans _ _ _ c.keep_snapshot.ensures.seen c.tell_all.ensures.seen in
-    let dropped = come_then _ _ _ _ _ _ _ seen told (c.drop_old.ensures.came p h) in
+    let dropped = come_then _ _ _ _ _ _ _ seen told (c.drop_old.ensures.came p h (at_level c.keep_snapshot.new.replica c.superstep.result c.superstep.ensures.value)) in
     let now = extends_trans _ _ _ seen c.drop_old.ensures.seen in
     let level = come_then _ _ _ _ _ _ _ now dropped c.in_ok-hear_all.ensures.came in
     let all = extends_trans v _ w now c.hear_all.ensures.seen in
@@ -140,7 +140,7 @@ returns-in-Further g c =
     let h = holding_in c.keep_snapshot.new.replica in
     let told = come_then _ _ _ _ _ _ _ c.keep_snapshot.ensures.seen c.in_ok-keep_snapshot.ensures.came c.in_ok-tell_all.ensures.came in
     let seen = extends_trans _ _ _ c.keep_snapshot.ensures.seen c.tell_all.ensures.seen in
-    let dropped = come_then _ _ _ _ _ _ _ seen told (c.drop_old.ensures.came p h) in
+    let dropped = come_then _ _ _ _ _ _ _ seen told (c.drop_old.ensures.came p h (at_level c.keep_snapshot.new.replica c.superstep.result c.superstep.ensures.value)) in
     let now = extends_trans v _ _ seen c.drop_old.ensures.seen in
     record {
       seen = extends_trans _ _ _ now c.hear_all.ensures.seen;
@@ -168,7 +168,7 @@ returns-in-Missed g c =
     let found = subst (λ (f : Found). IsFound (caller c.drop_old.new.exchange) p s r f w) c.in-Missed.is c.in_ok-hear_all.ensures.found in
     let told = come_then _ _ _ _ _ _ _ c.keep_snapshot.ensures.seen c.in_ok-keep_snapshot.ensures.came c.in_ok-tell_all.ensures.came in
     let seen = extends_trans _ _ _ c.keep_snapshot.ensures.seen c.tell_all.ensures.seen in
-    let dropped = come_then _ _ _ _ _ _ _ seen told (c.drop_old.ensures.came p h) in
+    let dropped = come_then _ _ _ _ _ _ _ seen told (c.drop_old.ensures.came p h (at_level c.keep_snapshot.new.replica c.superstep.result c.superstep.ensures.value)) in
     let now = extends_trans v _ _ seen c.drop_old.ensures.seen in
     record {
       seen = extends_trans _ _ _ now c.hear_all.ensures.seen;

@@ -1,0 +1,38 @@
+//! How the nodes of a run count who has ended too early.
+
+use super::*;
+use crate::running::Running;
+
+/// Whether each of two partitions may still tell something.
+fn may_tell(running: &Running) -> (bool, bool) {
+    (running.may_tell(0), running.may_tell(1))
+}
+
+/// Whether of two replicas each counts once, and for its own partition alone.
+fn count_once(running: &Running) -> bool {
+    let none = may_tell(running);
+    running.end(1);
+    let one = may_tell(running);
+    running.end(1);
+    let two = may_tell(running);
+    none == (true, true) && one == (true, true) && two == (true, false)
+}
+
+/// Whether nobody may tell anything any more once a run has stopped.
+fn stop_all(running: &Running) -> bool {
+    running.stop();
+    may_tell(running) == (false, false)
+}
+
+/// Whether all this is so in a new run of two partitions of two replicas.
+fn are_counted(alloc: Global) -> bool {
+    match Running::new(alloc, 2, 2, 1) {
+        Ok(running) => count_once(&running) && stop_all(&running),
+        Err(_) => false,
+    }
+}
+
+#[test]
+fn ends_that_come_too_early(rt: HostRuntime) {
+    assert!(rt; are_counted(rt.alloc()));
+}
