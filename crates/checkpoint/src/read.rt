@@ -124,6 +124,20 @@ fn read_text<R: CountedRead>(
     Ok(header)
 }
 
+// Fields that fit the part. It takes no memory.
+fn fitting(part: &Part, saved: Saved) -> Result<Saved, KeepError>
+    ensures same { IfOk result (λ s. s ≡ saved) }
+    ensures fits { IfOk result (λ s. Fits part.now s) }
+    ensures refused { OnErr result (Fits part.now saved → ⊥) }
+    ensures kind { IfErr result (λ e. e ≡ KeepError.Shape) }
+{
+    if saved.fits(part) {
+        Ok(saved)
+    } else {
+        Err(KeepError::Shape)
+    }
+}
+
 // What the reader tells of a replica of the part.
 fn read_saved<R: CountedRead>(
     alloc: Global,
@@ -150,10 +164,7 @@ fn read_saved<R: CountedRead>(
     let mut text = Vec::new(alloc);
     let header = read_text(part, reader, &mut text)?;
     let saved = saved_of(alloc, part, &header, &text)?;
-    if !saved.fits(part) {
-        return Err(KeepError::Shape);
-    }
-    Ok(saved)
+    fitting(part, saved)
 }
 
 /// The replica of the part whose checkpoint the reader gives.

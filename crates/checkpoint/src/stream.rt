@@ -205,6 +205,7 @@ pub(crate) fn read_seal<R: CountedRead>(reader: &mut R, text: &[u8]) -> Result<(
     ensures end { OnOk result (IsAtEnd (R.remaining reader.new)) }
     ensures fails { IfErr result (λ e. Fails R.remaining R.failed_calls R.sure_calls
         (seal_form text.now) (DIGEST_LEN + 1) reader.old reader.new e) }
+    ensures memory { IfErr result (λ e. e ≡ KeepError.Memory → ⊥) }
 {
     let mut digest = [0; DIGEST_LEN];
     match fill(reader, &mut digest) {

@@ -3,16 +3,17 @@ use Rattle.ball_model.specs.Checkpoint.{first_checkpoint_bytes, front_bytes, sea
 use Rattle.checkpoint.specs.declared.header.CheckpointHeader.{CheckpointHeader}
 use Rattle.std.proofs.lemmas.List.{length-take, take-append-drop, take-take}
 use Rattle.ball_model.specs.Job.{PartValue}
-use Rattle.replica.specs.Saved.{Fits}
+use Rattle.replica.specs.Saved.{Fits, IsRebuilt}
+use Rattle.replica.specs.declared.saved.Saved.{Saved}
 use Rattle.replica.proofs.SavedLemmas.Keepable.{keepable_fits}
-use Rattle.std.specs.Prelude.{Some}
+use Rattle.std.specs.Prelude.{Err, IfErr, OnErr, OnOk, Result, Some}
 use Rattle.checkpoint.specs.Reading.{check_checkpoint_head, checkpoint_head_at, TellNone}
 use Rattle.checkpoint.proofs.FrontLemmas.{front_is, one_or_two}
 use Rattle.checkpoint.proofs.HeldLemmas.{front_fits}
-use Rattle.std.proofs.lemmas.Result.{err_from_is_err_and}
+use Rattle.std.proofs.lemmas.Result.{IfOk-weaker, err_from_is_err_and}
+use Rattle.checkpoint.specs.declared.error.KeepError.{KeepError}
 use Rattle.checkpoint.specs.declared.error.KeepError.TheVariants as errors
 use Rattle.checkpoint.proofs.RefusalLemmas.{body_refuses, fails_refuse, first_told, memory_not_shape, second_told, unnamed_keepable}
-use Rattle.checkpoint.proofs.RightLemmas.{never}
 use Rattle.checkpoint.proofs.SpelledLemmas.{content_is, first_content_is, first_sealed_is, sealed_is}
 use Rattle.checkpoint.proofs.ReaderLemmas.{whatever_it_is}
 use Rattle.checkpoint.proofs.read.read_saved.Goals as goal
@@ -40,12 +41,21 @@ returns-in_err-saved-clause-refused g c =
     let r = err_from_is_err_and c.from_residual-in_err-saved.result c.from_residual-in_err-saved.ensures.1 in
     rw (r.1, r.2) (body_refuses g.R.CountedRead.sure_calls e c.in_ok-header.ensures.done c.in_err-saved.ensures.kind none)
 
-pub returns-then-not-fits-clause-refused : goal.returns-then-not-fits-clause-refused
-returns-then-not-fits-clause-refused g c =
+-- what does not fit is refused for its shape
+refuse_by : {part : PartValue} {saved : Saved} (r : Result Saved KeepError) (P : KeepError → Type 0) → IfErr r (λ e. e ≡ errors.Shape) → OnErr r (Fits part saved → ⊥) → ((Fits part saved → ⊥) → P errors.Shape) → IfErr r P
+refuse_by (Ok s) P kind unfit refused = tt
+refuse_by (Err e) P kind unfit refused = subst P (sym kind) (refused unfit)
+
+any_ok : {A : Type 0} {P : Type 0} (r : Result A KeepError) → P → OnOk r P
+any_ok (Ok x) p = p
+any_ok (Err e) p = tt
+
+pub returns-clause-refused : goal.returns-clause-refused
+returns-clause-refused g c =
     let text = c.deref.result.now in
     let saved = c.in_ok-saved.saved in
     let head = c.in_ok-header.ensures.head ∙ ap (λ (l : List ℕ). checkpoint_head_at (take 54 l)) (sym c.deref.ensures.value) in
-    let no_fit : Fits c.args.part.now saved → ⊥ = λ fits. never (sym c.if-not-fits.true ∙ c.fits.ensures.1 fits) in
+    refuse_by {part = c.args.part.now} {saved = saved} c.fitting.result _ c.fitting.ensures.kind c.fitting.ensures.refused (λ no_fit.
     let none : errors.Shape ≡ errors.Shape → (bytes : List ℕ) → g.R.Read.remaining c.args.reader.now ≡ Some bytes → TellNone c.args.part.now bytes = λ shape bytes known.
     let whole = subst (λ (l : List ℕ). bytes ≡ sealed l) (sym c.deref.ensures.value) (c.in_ok-header.ensures.sealed bytes known) in
     record {
@@ -60,18 +70,19 @@ returns-then-not-fits-clause-refused g c =
           (c.in_ok-saved.ensures.first (ap (λ (h : CheckpointHeader). h.version) head ∙ told.version_is) v k part (told.step ∙ sym (ap (λ (h : CheckpointHeader). h.superstep) head)) told.body_is)
           c.in_ok-saved.ensures.width c.in_ok-saved.ensures.accumulated);
     } in
-    body_refuses g.R.CountedRead.sure_calls errors.Shape c.in_ok-header.ensures.done (inr refl) none
+    body_refuses g.R.CountedRead.sure_calls errors.Shape c.in_ok-header.ensures.done (inr refl) none)
 
 pub returns-clause-first : goal.returns-clause-first
-returns-clause-first g c = λ v k part known.
+returns-clause-first g c = IfOk-weaker c.fitting.result _ _ (λ s same. λ v k part known.
     let text = c.deref.result.now in
     let head = c.in_ok-header.ensures.head ∙ ap (λ (l : List ℕ). checkpoint_head_at (take 54 l)) (sym c.deref.ensures.value) in
     let whole = subst (λ (l : List ℕ). first_checkpoint_bytes v ≡ sealed l) (sym c.deref.ensures.value) (c.in_ok-header.ensures.sealed (first_checkpoint_bytes v) known) in
     let told = first_told v (first_checkpoint_bytes v) text k.state whole refl in
-    c.in_ok-saved.ensures.first (ap (λ (h : CheckpointHeader). h.version) head ∙ told.version_is) v k part (told.step ∙ sym (ap (λ (h : CheckpointHeader). h.superstep) head)) told.body_is
+    subst (λ (x : Saved). IsRebuilt c.args.part.now x (without_names v)) (sym same) (c.in_ok-saved.ensures.first (ap (λ (h : CheckpointHeader). h.version) head ∙ told.version_is) v k part (told.step ∙ sym (ap (λ (h : CheckpointHeader). h.superstep) head)) told.body_is)) c.fitting.ensures.same
 
 pub returns-clause-spelled : goal.returns-clause-spelled
-returns-clause-spelled g c = λ v r is bytes known.
+returns-clause-spelled g c = IfOk-weaker c.fitting.result _ _ (λ s same. λ v told_of is bytes known.
+    let r = subst (λ (x : Saved). IsRebuilt c.args.part.now x v) same told_of in
     let text = c.deref.result.now in
     let whole = subst (λ (l : List ℕ). bytes ≡ sealed l) (sym c.deref.ensures.value) (c.in_ok-header.ensures.sealed bytes known) in
     let long = subst (λ (l : List ℕ). 54 ≤ length l) (sym c.deref.ensures.value) c.in_ok-header.ensures.length in
@@ -87,7 +98,7 @@ returns-clause-spelled g c = λ v r is bytes known.
     elim (one_or_two c.args.part.now (checkpoint_head_at (take 54 text)) passed) [
       | inl one ↦ inr (first_sealed_is v bytes text whole (first_content_is c.args.part.now c.in_ok-saved.saved v text r is (front 1 one) (c.in_ok-saved.ensures.first_spelled (ap (λ (h : CheckpointHeader). h.version) head ∙ one))))
       | inr two ↦ inl (sealed_is v bytes text whole (content_is c.args.part.now c.in_ok-saved.saved v text r is (front 2 two) (c.in_ok-saved.ensures.spelled (ap (λ (h : CheckpointHeader). h.version) head ∙ two))))
-    ]
+    ]) c.fitting.ensures.same
 
 pub returns-in_err-header-clause-within : goal.returns-in_err-header-clause-within
 returns-in_err-header-clause-within g c = c.in_err-header.ensures.within
@@ -103,20 +114,14 @@ returns-in_err-saved-clause-within g c = c.in_ok-header.ensures.within
 pub returns-in_err-saved-clause-front : goal.returns-in_err-saved-clause-front
 returns-in_err-saved-clause-front g c = λ bytes known. whatever_it_is _ (c.in_ok-header.ensures.front bytes known)
 
-pub returns-then-not-fits-clause-within : goal.returns-then-not-fits-clause-within
-returns-then-not-fits-clause-within g c = c.in_ok-header.ensures.within
-
-pub returns-then-not-fits-clause-front : goal.returns-then-not-fits-clause-front
-returns-then-not-fits-clause-front g c = λ bytes known _. c.in_ok-header.ensures.front bytes known
-
 pub returns-clause-fits : goal.returns-clause-fits
-returns-clause-fits g c = c.fits.ensures.0 c.if-not-fits.false
+returns-clause-fits g c = c.fitting.ensures.fits
 
 pub returns-clause-done : goal.returns-clause-done
-returns-clause-done g c = c.in_ok-header.ensures.done
+returns-clause-done g c = any_ok c.fitting.result c.in_ok-header.ensures.done
 
 pub returns-clause-within : goal.returns-clause-within
 returns-clause-within g c = c.in_ok-header.ensures.within
 
 pub returns-clause-front : goal.returns-clause-front
-returns-clause-front g c = λ bytes known. c.in_ok-header.ensures.front bytes known
+returns-clause-front g c = λ bytes known. whatever_it_is c.fitting.result (c.in_ok-header.ensures.front bytes known)
