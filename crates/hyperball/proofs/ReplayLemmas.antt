@@ -30,7 +30,7 @@ which fault.Write = inr (inl refl)
 -- a replay for which memory was refused
 pub begun : (told : Option (List ℕ)) (w : ReplayWords) (old new : Option (List ℕ)) (a b : ℕ) (e : ReplayError) → e ≡ fault.Memory → IfSome told (λ input. FailsIn w input old new a b e) → IfSome told (λ input. BeginsAnswers w input old new)
 begun None w old new a b e is fails = tt
-begun (Some input) w old new a b e is fails = record { parts = fails.parts; found = fails.found; begun = λ plain. fails.fails.memory plain is }
+begun (Some input) w old new a b e is fails = record { parts = fails.parts; found = fails.found; some = fails.fails.some_memory is; begun = λ plain. fails.fails.memory plain is }
 
 -- what each fault leaves
 pub stops : (told : Option (List ℕ)) (w : ReplayWords) (old new : Option (List ℕ)) (a b : ℕ) (f : ReplayFault) → IfSome told (λ input. FailsOver w input old new a b f) → Leaves old new a b f →

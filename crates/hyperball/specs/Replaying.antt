@@ -18,7 +18,8 @@ use Rattle.hyperball.specs.declared.replaying.ReplayFault.TheVariants as fault
 use Rattle.hyperball.specs.declared.words.RunWords.{RunWords}
 use Rattle.hyperball.specs.declared.words.Wish.{Wish}
 use Rattle.hyperball.specs.declared.words.Wish.TheVariants as wish
-use Rattle.world.specs.Replay.{BeginsReplay, FailsOfReplay, replay_of}
+use Rattle.world.specs.Replay.{AppendsSomeReplay, BeginsReplay, BeginsSomeReplay, FailsOfReplay}
+use Rattle.world.specs.Replay.{replay_of}
 use Rattle.world.specs.declared.replay.ReplayError.{ReplayError}
 use Rattle.world.specs.declared.replay.ReplayError.TheVariants as unanswered
 
@@ -90,19 +91,22 @@ abbrev pub parts_in : Bool → List ℕ → Result Parts ReplayFault
 parts_in false input = with_script (sections_of input)
 parts_in true input = with_list (sections_of input)
 
--- the options fit, a script stands in the input, and its answers are appended, where the input is plain
+-- the options fit, a script stands in the input, and its answers are appended: over some network, and over that of the
+-- input where it is plain
 pub record Answers (w : ReplayWords) (input : List ℕ) (old new : Option (List ℕ)) : Type 0 where
   pub parts : Parts
   pub found : parts_in w.counted input ≡ Ok parts
   pub commands : HasCommands (replay_of w.options) parts.script
+  pub some : AppendsSomeReplay (replay_of w.options) parts.script old new
   pub appended : ArePlain parts.edges parts.list →
       AppendsReplay (replay_of w.options) parts.edges parts.list parts.script old new
 
--- nothing or a beginning of these answers is appended, where the input is plain
+-- nothing or a beginning of these answers is appended
 pub record BeginsAnswers (w : ReplayWords) (input : List ℕ) (old new : Option (List ℕ)) :
     Type 0 where
   pub parts : Parts
   pub found : parts_in w.counted input ≡ Ok parts
+  pub some : Keeps old new ⊎ BeginsSomeReplay (replay_of w.options) parts.script old new
   pub begun : ArePlain parts.edges parts.list →
       Keeps old new ⊎ BeginsReplay (replay_of w.options) parts.edges parts.list parts.script old new
 

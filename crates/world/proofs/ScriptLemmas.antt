@@ -1,6 +1,7 @@
 -- Scripts as they are read.
-use Rattle.std.proofs.Common.{◌≡◌, ◌≢◌, ◌∙◌, ℕ, suc, ◌+◌, ◌*◌, ◌-◌, ◌<◌, ◌≤◌, Bool, true, false, ◌==◌, if◌then◌else◌, cond, List, [], ◌∷◌, ◌++◌, length, take, drop, min, slice_index, refl, ap, arith, sym, append_assoc, append-nil}
-use Rattle.std.specs.Prelude.{Option, None, Some, option_map, Result, Ok, Err, decimal, ◌^◌}
+use Rattle.std.proofs.Common.{◌≡◌, ◌≢◌, ◌∙◌, ℕ, suc, ◌+◌, ◌*◌, ◌-◌, ◌<◌, ◌≤◌, Bool, true, false, ◌==◌, if◌then◌else◌, cond, List, [], ◌∷◌, ◌++◌, length, take, drop, min, slice_index, refl, ap, arith, sym, subst, append_assoc, append-nil}
+use Rattle.std.specs.Prelude.{Option, None, Some, IfSome, option_map, Result, Ok, Err, IsOk, decimal, ◌^◌}
+use Rattle.std.specs.Option.{is_some}
 use Rattle.std.specs.Str.{bytes_eq}
 use Rattle.std.specs.List.{slice_split, onto_first}
 use Rattle.std.specs.Str.Lines.{lines, lines_of_parts, strip_carriage_return}
@@ -12,9 +13,7 @@ use Rattle.ball_model.specs.declared.world.Event.{Event}
 use Rattle.ball_model.specs.Input.{fields, is_record, with_first_byte}
 use Rattle.ball_model.specs.WorldText.{command_of, events_from, node_from, node_in, number_in, one_command, script_of, two_command, value_from, with_command}
 use Rattle.ball_model.specs.Sections.{longer}
-use Rattle.world.specs.declared.script.ScriptError.{ScriptError}
-use Rattle.world.specs.declared.script.ScriptError.TheVariants as fault
-use Rattle.world.specs.Script.{RefusesLine, RefusesScript, added, cut_of, most}
+use Rattle.world.specs.Script.{added, cut_of, fault_of, is_command_or_skipped, most}
 
 -- ---- cutting
 
@@ -224,6 +223,60 @@ number-other word text v is few other printed =
     let value : value_from 0 word ≡ v = omega (arith, is, few) in
     rw (value, lt-ltb v (10 ^ 9) few, ← printed, other) refl
 
+-- ---- faults
+
+-- the first fault of a script is the first of what is left of it, from the line of that number on
+pub record HasNoFaultSoFar (script rest : List ℕ) (number : ℕ) : Type 0 where
+  pub meaning : fault_of (script_of script) ≡ fault_of (events_from number (lines rest))
+  pub within : number + length rest ≤ length script + 1
+
+fault-behind : (e : Event) (more : Result (List Event) ℕ) (number : ℕ) → fault_of (with_command number (Some e) more) ≡ fault_of more
+fault-behind e (Ok es) number = refl
+fault-behind e (Err line) number = refl
+
+fault-further : (number : ℕ) (more : Result (List Event) ℕ) (is_one : Bool) (o : Option Event) → (if is_one then is_some o else true) ≡ true →
+    fault_of (if is_one then with_command number o more else more) ≡ fault_of more
+fault-further number more true None is = absurd (cc)
+fault-further number more true (Some e) is = fault-behind e more number
+fault-further number more false o is = refl
+
+-- a line that is none
+pub pass-line : (script rest line after : List ℕ) (number : ℕ) → HasNoFaultSoFar script rest number → lines rest ≡ line ∷ lines after → length after < length rest → is_command_or_skipped line ≡ true →
+    HasNoFaultSoFar script after (number + 1)
+unfolding events_from
+pass-line script rest line after number h is short fine = record {
+  meaning = h.meaning ∙ ap (λ l. fault_of (events_from number l)) is ∙ fault-further number (events_from (number + 1) (lines after)) (is_record line) (command_of (fields 32 line)) fine;
+  within = let so_far = h.within in omega arith;
+}
+
+fault-here : (number : ℕ) (more : Result (List Event) ℕ) (is_one : Bool) (o : Option Event) → (if is_one then is_some o else true) ≡ false →
+    fault_of (if is_one then with_command number o more else more) ≡ Some number
+fault-here number more true None is = refl
+fault-here number more true (Some e) is = absurd (cc)
+fault-here number more false o is = absurd (cc)
+
+-- a line that is one
+pub find-fault : (script rest line after : List ℕ) (number : ℕ) → HasNoFaultSoFar script rest number → lines rest ≡ line ∷ lines after → is_command_or_skipped line ≡ false → fault_of (script_of script) ≡ Some number
+unfolding events_from
+find-fault script rest line after number h is bad =
+    h.meaning ∙ ap (λ l. fault_of (events_from number l)) is ∙ fault-here number (events_from (number + 1) (lines after)) (is_record line) (command_of (fields 32 line)) bad
+
+-- the end of a script that has none
+pub no-fault : (script rest : List ℕ) (number : ℕ) → HasNoFaultSoFar script rest number → (length rest == 0) ≡ true → fault_of (script_of script) ≡ None
+unfolding events_from
+no-fault script [] number h none = h.meaning
+no-fault script (c ∷ rest) number h none = absurd (omega (arith, eqb-true (suc (length rest)) 0 none))
+
+-- so it says events
+pub events-of : (r : Result (List Event) ℕ) → fault_of r ≡ None → (es : List Event) × (r ≡ Ok es)
+events-of (Ok es) is = (es, refl)
+events-of (Err line) is = absurd (cc)
+
+-- or has its first fault there
+pub line-of : (r : Result (List Event) ℕ) (line : ℕ) → fault_of r ≡ Some line → r ≡ Err line
+line-of (Ok es) line is = absurd (cc)
+line-of (Err other) line is = let same : other ≡ line = cc in ap Err same
+
 -- ---- events
 
 -- these events, and those that follow
@@ -231,48 +284,44 @@ abbrev pub then_events : List Event → Result (List Event) ℕ → Result (List
 then_events es (Ok more) = Ok (es ++ more)
 then_events es (Err line) = Err line
 
--- what was read of a script, and what is left of it, from the line of that number on
-pub record ReadSoFar (script rest : List ℕ) (number : ℕ) (es : List Event) : Type 0 where
+-- what was read of a script, and what is left of it, from the line of some number on
+pub record ReadSoFar (script rest : List ℕ) (es : List Event) : Type 0 where
+  pub number : ℕ
   pub meaning : script_of script ≡ then_events es (events_from number (lines rest))
-  pub within : number + length rest ≤ length script + 1
+
+then-none : (r : Result (List Event) ℕ) → r ≡ then_events [] r
+then-none (Ok more) = refl
+then-none (Err line) = refl
+
+-- nothing was read
+pub read-none : (script : List ℕ) → ReadSoFar script script []
+read-none script = record { number = 1; meaning = then-none (script_of script) }
 
 then-more : (es : List Event) (e : Event) (r : Result (List Event) ℕ) (n : ℕ) → then_events es (with_command n (Some e) r) ≡ then_events (es ++ e ∷ []) r
 then-more es e (Ok more) n = ap Ok (sym (append_assoc es (e ∷ []) more))
 then-more es e (Err line) n = refl
 
--- the events of one line more
-then-added : (es now : List Event) (number : ℕ) (line : List ℕ) (more : Result (List Event) ℕ) (is_one : Bool) (o : Option Event) →
-    (if is_one then option_map (λ e. es ++ e ∷ []) o else Some es) ≡ Some now →
+-- the events of one line more, in a script that has no fault
+then-added : (es now : List Event) (number : ℕ) (more : Result (List Event) ℕ) (is_one : Bool) (o : Option Event) →
+    IsOk (then_events es (if is_one then with_command number o more else more)) →
+    IfSome (if is_one then option_map (λ e. es ++ e ∷ []) o else Some es) (λ all. all ≡ now) →
     then_events es (if is_one then with_command number o more else more) ≡ then_events now more
-then-added es now number line more true None is = absurd (cc)
-then-added es now number line more true (Some e) is = then-more es e more number ∙ ap (λ l. then_events l more) (let same : es ++ e ∷ [] ≡ now = cc in same)
-then-added es now number line more false o is = ap (λ l. then_events l more) (let same : es ≡ now = cc in same)
+then-added es now number more true None fine is = absurd (cc)
+then-added es now number more true (Some e) fine is = then-more es e more number ∙ ap (λ l. then_events l more) is
+then-added es now number more false o fine is = ap (λ l. then_events l more) is
 
-pub read-line : (script rest line after : List ℕ) (number : ℕ) (es now : List Event) → ReadSoFar script rest number es → lines rest ≡ line ∷ lines after → length after < length rest →
-    added es line ≡ Some now → ReadSoFar script after (number + 1) now
+pub read-line : (script rest line after : List ℕ) (es now : List Event) → IsOk (script_of script) → ReadSoFar script rest es → lines rest ≡ line ∷ lines after →
+    IfSome (added es line) (λ all. all ≡ now) → ReadSoFar script after now
 unfolding events_from
-read-line script rest line after number es now h is short more = record {
-  meaning = h.meaning ∙ ap (λ l. then_events es (events_from number l)) is ∙ then-added es now number line (events_from (number + 1) (lines after)) (is_record line) (command_of (fields 32 line)) more;
-  within = let so_far = h.within in omega arith;
-}
-
-not-added : (es : List Event) (number : ℕ) (more : Result (List Event) ℕ) (is_one : Bool) (o : Option Event) →
-    (if is_one then option_map (λ e. es ++ e ∷ []) o else Some es) ≡ None →
-    then_events es (if is_one then with_command number o more else more) ≡ Err number
-not-added es number more true None is = refl
-not-added es number more true (Some e) is = absurd (cc)
-not-added es number more false o is = absurd (cc)
-
--- a line that is no command
-pub refuse-line : (script rest line after : List ℕ) (number : ℕ) (es : List Event) → ReadSoFar script rest number es → lines rest ≡ line ∷ lines after →
-    (e : ScriptError) → RefusesLine number (added es line) e → RefusesScript (script_of script) e
-unfolding events_from
-refuse-line script rest line after number es h is fault.Memory none = tt
-refuse-line script rest line after number es h is (fault.Line n) none =
-    h.meaning ∙ ap (λ l. then_events es (events_from number l)) is ∙ not-added es number (events_from (number + 1) (lines after)) (is_record line) (command_of (fields 32 line)) none.1 ∙ ap Err (sym none.0)
+read-line script rest line after es now fine h is more =
+    let meaning = h.meaning ∙ ap (λ l. then_events es (events_from h.number l)) is in
+    record {
+      number = h.number + 1;
+      meaning = meaning ∙ then-added es now h.number (events_from (h.number + 1) (lines after)) (is_record line) (command_of (fields 32 line)) (subst IsOk meaning fine) more;
+    }
 
 -- the end of a script
-pub end-of : (script rest : List ℕ) (number : ℕ) (es : List Event) → ReadSoFar script rest number es → (length rest == 0) ≡ true → script_of script ≡ Ok es
+pub end-of : (script rest : List ℕ) (es : List Event) → ReadSoFar script rest es → (length rest == 0) ≡ true → script_of script ≡ Ok es
 unfolding events_from
-end-of script [] number es h none = h.meaning ∙ ap Ok (append-nil es)
-end-of script (c ∷ rest) number es h none = absurd (omega (arith, eqb-true (suc (length rest)) 0 none))
+end-of script [] es h none = h.meaning ∙ ap Ok (append-nil es)
+end-of script (c ∷ rest) es h none = absurd (omega (arith, eqb-true (suc (length rest)) 0 none))

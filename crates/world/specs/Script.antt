@@ -1,8 +1,7 @@
 -- How a script is read: words cut off one after another, and events added line by line.
-use Rattle.std.specs.Prelude.{◌≡◌, ⊤, ℕ, ◌==◌, List, [], ◌∷◌, ◌++◌, Option, None, Some, option_map, if◌then◌else◌, Result, Err}
+use Rattle.std.specs.Prelude.{ℕ, ◌==◌, Bool, true, List, [], ◌∷◌, ◌++◌, Option, None, Some, option_map, if◌then◌else◌, Result, Ok, Err}
+use Rattle.std.specs.Option.{is_some}
 use Rattle.ball_model.specs.declared.world.Event.{Event}
-use Rattle.world.specs.declared.script.ScriptError.{ScriptError}
-use Rattle.world.specs.declared.script.ScriptError.TheVariants as fault
 use Rattle.ball_model.specs.Input.{fields, is_record}
 use Rattle.ball_model.specs.WorldText.{command_of}
 use Rattle.ball_model.specs.Sections.{longer}
@@ -23,12 +22,11 @@ added es line =
     then option_map (λ e. es ++ e ∷ []) (command_of (fields 32 line))
     else Some es
 
--- what a refusal says of the line of that number, of which these events come
-abbrev pub RefusesLine : ℕ → Option (List Event) → ScriptError → Type 0
-RefusesLine number es (fault.Line n) = (n ≡ number) × (es ≡ None)
-RefusesLine number es fault.Memory = ⊤
+-- a line is a command, or is skipped
+abbrev pub is_command_or_skipped : List ℕ → Bool
+is_command_or_skipped line = if is_record line then is_some (command_of (fields 32 line)) else true
 
--- what a refusal says of a script
-abbrev pub RefusesScript : Result (List Event) ℕ → ScriptError → Type 0
-RefusesScript says (fault.Line n) = says ≡ Err n
-RefusesScript says fault.Memory = ⊤
+-- the number of the first line of a script that is no command
+abbrev pub fault_of : Result (List Event) ℕ → Option ℕ
+fault_of (Ok es) = None
+fault_of (Err line) = Some line

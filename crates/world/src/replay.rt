@@ -1,21 +1,20 @@
 //! A script over an edge list, and its answers.
 
-ghost use Rattle.std.specs.Prelude.{◌≡◌, ◌≢◌, ℕ, List, Ok, Err, IfErr, IfOk, IfSome, OnOk, length};
+ghost use Rattle.std.specs.Prelude.{◌≡◌, ◌≢◌, Ok, Err, IfErr, IfOk, IfSome, IsOk, OnOk, length};
 ghost use Rattle.ball_model.specs.Job.{IsJob, job_of};
 ghost use Rattle.ball_model.specs.Input.{IsPlain, records};
 ghost use Rattle.ball_model.specs.RunText.{ArePlain, AreRead, list_in, plan_asked};
-ghost use Rattle.ball_model.specs.WorldText.{AppendsReplay, HasCommands};
+ghost use Rattle.ball_model.specs.WorldText.{AppendsReplay, HasCommands, script_of};
 ghost use Rattle.edgelist.specs.Counting.{RefusesList};
 ghost use Rattle.edgelist.specs.Reading.{Refuses, byte_of};
-ghost use Rattle.world.specs.Replay.{AreCommands, FailsOfReplay, IsEarly, IsOfInput, IsReady};
-ghost use Rattle.world.specs.Replay.{IsSomeStart, IsStarted, RefusesCommands, RefusesReplayRead};
-ghost use Rattle.world.specs.Replay.{RefusesStart, StartsFrom};
-ghost use Rattle.world.specs.Replay.{replay_counted_by, replay_network_by, replay_numbers_of};
-ghost use Rattle.world.specs.Replay.{replay_of, replay_settings_of};
+ghost use Rattle.world.specs.Replay.{AppendsSomeReplay, FailsOfReplay, IsBegun, IsEarly, IsOfInput};
+ghost use Rattle.world.specs.Replay.{IsReady, RefusesCommands, RefusesEdges, RefusesReplayRead};
+ghost use Rattle.world.specs.Replay.{RefusesStart, replay_counted_by, replay_network_by};
+ghost use Rattle.world.specs.Replay.{replay_numbers_of, replay_of, replay_settings_of};
 
 use crate::World;
 use crate::bytes::Bytes;
-use crate::script::{ScriptError, read_script};
+use crate::script::{first_fault, read_script};
 use crate::tell::{TellError, tell_events};
 use crate::watch::{Unwatched, Watch};
 use ball_model::plan::MOST_REPLICAS;
@@ -71,19 +70,6 @@ pub enum ReplayError {
     Write,
 }
 
-impl From<ScriptError> for ReplayError {
-    ghost use Rattle.world.specs.Replay.{told_script};
-
-    ghost from_gives = { λ fault e. e ≡ told_script fault };
-
-    fn from(fault: ScriptError) -> ReplayError {
-        match fault {
-            ScriptError::Line { line } => ReplayError::Script { line },
-            ScriptError::Memory => ReplayError::Memory,
-        }
-    }
-}
-
 impl From<EdgeError> for ReplayError {
     ghost use Rattle.world.specs.declared.replay.ReplayError.TheVariants.{Edges};
 
@@ -137,20 +123,18 @@ impl From<TellError> for ReplayError {
     }
 }
 
-// The events of a script, where the options fit.
-fn read_events(
-    alloc: Global,
-    script: &[u8],
-    options: &ReplayOptions,
-) -> Result<Vec<Event>, ReplayError>
-    ensures ok { IfOk result (λ events.
-        AreCommands (replay_of options.now) script.now events.items) }
+// The first fault of the options and the script. It takes no memory.
+fn check_commands(script: &[u8], options: &ReplayOptions) -> Result<(), ReplayError>
+    ensures ok { OnOk result (HasCommands (replay_of options.now) script.now) }
     ensures refused { IfErr result (RefusesCommands (replay_of options.now) script.now) }
 {
     if options.replicas < 1 || MOST_REPLICAS < options.replicas {
         return Err(ReplayError::Options);
     }
-    Ok(read_script(alloc, script)?)
+    match first_fault(script) {
+        Some(line) => Err(ReplayError::Script { line }),
+        None => Ok(()),
+    }
 }
 
 // The graph that an edge list in memory says, and how many records it has.
@@ -210,6 +194,10 @@ fn read_network(
     ensures refused { ArePlain edges.now (list_in counted.entry) →
         IfErr result (RefusesReplayRead (replay_settings_of options.now) edges.now
         (list_in counted.entry)) }
+    ensures listed { IsPlain edges.now →
+        OnOk result (IsOk (replay_network_by options.now edges.now)) }
+    ensures edges { IsPlain edges.now →
+        IfErr result (RefusesEdges (replay_of options.now) edges.now) }
     ensures kind { IfErr result IsOfInput }
 {
     let read = read_all(alloc, state, edges, options)?;
@@ -238,36 +226,21 @@ fn plan_for(graph: &Graph, options: &ReplayOptions) -> Result<Plan, PlanError>
     }
 }
 
-// The world of a graph at its start.
-fn start(alloc: Global, graph: &Graph, options: &ReplayOptions) -> Result<World, ReplayError>
-    ensures ok { IfOk result (IsStarted (replay_numbers_of options.now)
-        options.now.replicas graph.now) }
+// The events of a script, and the world of a graph at its start. Memory is taken once there is a plan.
+fn begin(
+    alloc: Global,
+    graph: &Graph,
+    script: &[u8],
+    options: &ReplayOptions,
+) -> Result<(Vec<Event>, World), ReplayError>
+    ensures ok { IsOk (script_of script.now) → IfOk result (λ both. IsBegun
+        (replay_of options.now) graph.now script.now both.0.items both.1) }
     ensures refused { IfErr result (RefusesStart (replay_numbers_of options.now) graph.now) }
 {
     let plan = plan_for(graph, options)?;
-    Ok(World::new(alloc, graph, &plan, options.replicas)?)
-}
-
-// The world of an edge list at its start.
-fn read_world<V: Watch>(
-    alloc: Global,
-    state: RandomState,
-    edges: &[u8],
-    counted: Option<&[u8]>,
-    options: &ReplayOptions,
-    watch: &V,
-) -> Result<World, ReplayError>
-    ensures some { IfOk result IsSomeStart }
-    ensures starts { ArePlain edges.now (list_in counted.entry) → IfOk result
-        (StartsFrom (replay_of options.now) edges.now (list_in counted.entry)) }
-    ensures refused { (script : List ℕ) → HasCommands (replay_of options.now) script →
-        IfErr result (IsEarly (replay_of options.now) edges.now (list_in counted.entry) script) }
-{
-    let read = read_network(alloc, state, edges, counted, options)?;
-    watch.after_read(read.records, read.graph.vertices());
-    let world = start(alloc, &read.graph, options);
-    drop(read);
-    world
+    let events = read_script(alloc, script)?;
+    let world = World::new(alloc, graph, &plan, options.replicas)?;
+    Ok((events, world))
 }
 
 // The events of a script, and the world of an edge list at its start.
@@ -285,9 +258,10 @@ fn prepare<V: Watch>(
     ensures refused { IfErr result
         (IsEarly (replay_of options.now) edges.now (list_in counted.entry) script.now) }
 {
-    let events = read_events(alloc, script, options)?;
-    let world = read_world(alloc, state, edges, counted, options, watch)?;
-    Ok((events, world))
+    check_commands(script, options)?;
+    let read = read_network(alloc, state, edges, counted, options)?;
+    watch.after_read(read.records, read.graph.vertices());
+    begin(alloc, &read.graph, script, options)
 }
 
 /// Reads an edge list, makes the world of its job, and writes what the events of a script answer.
@@ -298,9 +272,11 @@ fn prepare<V: Watch>(
 /// and lines that begin with `#` are skipped.
 ///
 /// The errors come in the order of [`ReplayError`]; options and the whole script are checked before anything is read or
-/// written, whatever the edge list is. After `Memory` and `Write` a beginning of the answers stands, after every other
-/// error nothing. `Edges(Read)` is not answered, and `Write` exactly where a call of the writer failed. What is said of
-/// the edge list holds for plain bytes: no byte order mark at the front, and an LF after each CR.
+/// written, whatever the edge list is, and without memory. So is the plan, before memory is asked for that is told as
+/// `Memory`. After `Memory` and `Write` a beginning of the answers stands, after every other error nothing. `Edges(Read)`
+/// is not answered, and `Write` exactly where a call of the writer failed. What is said of the edge list holds for plain
+/// bytes: no byte order mark at the front, and an LF after each CR. Of other bytes the answers are those of a job of these
+/// options over some network, from its start.
 ///
 /// Memory is the graph, a replica for each node, 32 bytes a command, and what the events keep: the bytes of each
 /// message, a replica's rows for each copy and checkpoint, and the longest line of the answers.
@@ -316,6 +292,10 @@ pub fn replay<W: CountedWrite>(
     ensures ok { ArePlain edges.now (list_in counted.entry) →
         OnOk result (AppendsReplay (replay_of options.now) edges.now (list_in counted.entry)
         script.now (W.contents writer.old) (W.contents writer.new)) }
+    ensures some { OnOk result (AppendsSomeReplay (replay_of options.now) script.now
+        (W.contents writer.old) (W.contents writer.new)) }
+    ensures edges { IsPlain edges.now →
+        OnOk result (IsOk (replay_network_by options.now edges.now)) }
     ensures commands { OnOk result (HasCommands (replay_of options.now) script.now) }
     ensures counted { OnOk result (W.failed_calls writer.new ≡ W.failed_calls writer.old) }
     ensures failed { IfErr result (FailsOfReplay (replay_of options.now) edges.now
@@ -342,6 +322,10 @@ pub fn replay_watched<W: CountedWrite, V: Watch>(
     ensures ok { ArePlain edges.now (list_in counted.entry) →
         OnOk result (AppendsReplay (replay_of options.now) edges.now (list_in counted.entry)
         script.now (W.contents writer.old) (W.contents writer.new)) }
+    ensures some { OnOk result (AppendsSomeReplay (replay_of options.now) script.now
+        (W.contents writer.old) (W.contents writer.new)) }
+    ensures edges { IsPlain edges.now →
+        OnOk result (IsOk (replay_network_by options.now edges.now)) }
     ensures commands { OnOk result (HasCommands (replay_of options.now) script.now) }
     ensures counted { OnOk result (W.failed_calls writer.new ≡ W.failed_calls writer.old) }
     ensures failed { IfErr result (FailsOfReplay (replay_of options.now) edges.now

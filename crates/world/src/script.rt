@@ -1,6 +1,6 @@
 //! Scripts: events as lines of words.
 
-ghost use Rattle.std.specs.Prelude.{◌≡◌, ◌<◌, ◌∷◌, [], Ok, Some, IfErr, IfOk, OnOk, length};
+ghost use Rattle.std.specs.Prelude.{◌≡◌, ◌<◌, ◌∷◌, [], Ok, IfOk, IfSome, IsOk, OnOk, length};
 ghost use Rattle.std.specs.Prelude.{min, option_map};
 ghost use Rattle.std.specs.Str.Lines.{lines, strip_carriage_return};
 ghost use Rattle.ball_model.specs.Input.{fields, is_record};
@@ -8,7 +8,7 @@ ghost use Rattle.ball_model.specs.WorldText.{command_of, node_from, node_in, num
 ghost use Rattle.ball_model.specs.WorldText.{one_command, part_in, replica_in, script_of};
 ghost use Rattle.ball_model.specs.WorldText.{two_command, value_from};
 ghost use Rattle.ball_model.specs.declared.world.Event.TheVariants as event;
-ghost use Rattle.world.specs.Script.{RefusesLine, RefusesScript, added, cut_of, most};
+ghost use Rattle.world.specs.Script.{added, cut_of, fault_of, is_command_or_skipped, most};
 
 use ball_model::NodeId;
 use ball_model::world::Event;
@@ -17,25 +17,6 @@ use std::alloc::{AllocError, Global};
 
 /// Numbers of scripts are below it: they have at most 9 digits.
 const MOST: u64 = 1_000_000_000;
-
-/// Why a script has no events.
-#[derive(Clone, Copy, Debug, PartialEq, Eq)]
-pub(crate) enum ScriptError {
-    /// The first line that is no command, from 1 on.
-    Line { line: u64 },
-    /// Memory was refused.
-    Memory,
-}
-
-impl From<AllocError> for ScriptError {
-    ghost use Rattle.world.specs.declared.script.ScriptError.TheVariants.{Memory};
-
-    ghost from_gives = { λ _ e. e ≡ Memory };
-
-    fn from(_fault: AllocError) -> ScriptError {
-        ScriptError::Memory
-    }
-}
 
 /// What stands before the first such byte, and what follows it.
 pub fn cut(byte: u8, text: &[u8]) -> Option<(&[u8], &[u8])>
@@ -218,36 +199,54 @@ fn is_record(line: &[u8]) -> bool
     !line.is_empty() && line[0] != b'#'
 }
 
-// Adds the event of the line of that number behind the others, where it is not skipped.
-fn add_line(events: &mut Vec<Event>, line: &[u8], number: u64) -> Result<(), ScriptError>
-    ensures ok { OnOk result (added events.old.items line.now ≡ Some events.new.items) }
-    ensures refused { IfErr result (RefusesLine number (added events.old.items line.now)) }
+// Whether a line is a command, or is skipped.
+fn is_command_or_skipped(line: &[u8]) -> bool
+    ensures { result ≡ is_command_or_skipped line.now }
 {
-    if !is_record(line) {
-        return Ok(());
-    }
-    let Some(event) = command(line) else {
-        return Err(ScriptError::Line { line: number });
-    };
-    match events.push(event) {
-        Ok(()) => Ok(()),
-        Err(_) => Err(ScriptError::Memory),
-    }
+    !is_record(line) || command(line).is_some()
 }
 
-/// The events of a script, or its first line that is no command. The only memory is that of the events.
-pub(crate) fn read_script(alloc: Global, script: &[u8]) -> Result<Vec<Event>, ScriptError>
-    ensures ok { IfOk result (λ events. script_of script.now ≡ Ok events.items) }
-    ensures refused { IfErr result (RefusesScript (script_of script.now)) }
+/// The first line of a script that is no command, from 1 on. It takes no memory.
+pub(crate) fn first_fault(script: &[u8]) -> Option<u64>
+    ensures { result ≡ fault_of (script_of script.now) }
 {
-    let mut events = Vec::new(alloc);
     let mut rest = script;
     let mut number = 1u64;
     while !rest.is_empty() {
         let (line, after) = next_line(rest);
-        add_line(&mut events, line, number)?;
+        if !is_command_or_skipped(line) {
+            return Some(number);
+        }
         rest = after;
         number += 1;
+    }
+    None
+}
+
+// Adds the event of a line behind the others, where it is a command.
+fn add_line(events: &mut Vec<Event>, line: &[u8]) -> Result<(), AllocError>
+    ensures { OnOk result (
+        IfSome (added events.old.items line.now) (λ all. all ≡ events.new.items)) }
+{
+    if is_record(line)
+        && let Some(event) = command(line)
+    {
+        events.push(event)?;
+    }
+    Ok(())
+}
+
+/// The events of a script each of whose lines is a command or is skipped. The only memory is theirs.
+pub(crate) fn read_script(alloc: Global, script: &[u8]) -> Result<Vec<Event>, AllocError>
+    ensures { IsOk (script_of script.now) →
+        IfOk result (λ events. script_of script.now ≡ Ok events.items) }
+{
+    let mut events = Vec::new(alloc);
+    let mut rest = script;
+    while !rest.is_empty() {
+        let (line, after) = next_line(rest);
+        add_line(&mut events, line)?;
+        rest = after;
     }
     Ok(events)
 }
