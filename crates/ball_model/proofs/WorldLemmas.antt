@@ -1,8 +1,10 @@
 -- Runs of a world.
-use Rattle.std.proofs.Common.{◌≡◌, ◌≢◌, ◌⊎◌, ℕ, zero, suc, ◌+◌, ◌<◌, ◌≤◌, Bool, true, false, not, ◌==◌, ◌&&◌, nat_lt, if◌then◌else◌, List, [], ◌∷◌, ◌++◌, map, get_or, set, replicate, IfSome, option_map, refl, ap, sym, ◌∙◌, subst, inl, inr, arith}
+use Rattle.std.proofs.Common.{◌≡◌, ◌≢◌, ◌⊎◌, ℕ, zero, suc, ◌+◌, ◌-◌, ◌<◌, ◌≤◌, Bool, true, false, not, ◌==◌, ◌&&◌, nat_lt, if◌then◌else◌, List, [], ◌∷◌, ◌++◌, map, length, get_or, set, replicate, IfSome, option_map, refl, ap, sym, ◌∙◌, subst, inl, inr, arith}
 use Rattle.std.specs.Prelude.{Option, None, Some, Result, Ok, Err, IsOk, unwrap_or}
-use Rattle.std.specs.List.{AllByRecursion, range_with_len, slice_get}
-use Rattle.std.proofs.lemmas.Bool.{cases_eq, and_parts, ltb-true, eqb-true, eqb-false, not-true}
+use Rattle.std.specs.List.{AllByRecursion, range_with_len, remove, slice_get}
+use Rattle.std.proofs.lemmas.Bool.{cases_eq, cases_lt, and_parts, le-ltb, lt-ltb, ltb-true, eqb-true, eqb-false, not-true}
+use Rattle.std.proofs.lemmas.List.{length-append}
+use Rattle.std.proofs.lemmas.List.Edits.{remove-append_left}
 use Rattle.ball_model.specs.declared.names.BatchName.{BatchName}
 use Rattle.ball_model.specs.declared.names.NodeId.{NodeId}
 use Rattle.ball_model.specs.declared.names.Taken.{Taken}
@@ -24,7 +26,7 @@ use Rattle.ball_model.specs.Join.{Holding, content_in, join_of, merge_of}
 use Rattle.ball_model.specs.Steps.{Take, Close, content_after_close}
 use Rattle.ball_model.specs.Held.{start_holding, held_take_answer, held_after, IsHeldBy, IsName}
 use Rattle.ball_model.specs.World.{Node, World, start_node, start_world, node_at, with_node, with_content, node_of, name_to, outcome_at, outcome_unless, recover_when, recover_at, deliver_at, taken_answer, answer_in, world_in, answer_of, after_event, run_of}
-use Rattle.ball_model.specs.WorldLaws.{IsWorldNode, IsWorld, RunsStayWorlds, SentIsInTime, LossLeavesContents, OthersStay, RepeatIsNotNew, RecoverTwiceIsOnce, RecoveredIsHad, SparesKept, SparesNode, RestartGivesKept, IsNoRestart, OnlyRestartGoesBack}
+use Rattle.ball_model.specs.WorldLaws.{IsWorldNode, IsWorld, RunsStayWorlds, SentIsInTime, LossLeavesContents, SparesMessage, without_message, event_without, OthersStay, RepeatIsNotNew, RecoverTwiceIsOnce, RecoveredIsHad, SparesKept, SparesNode, RestartGivesKept, IsNoRestart, OnlyRestartGoesBack}
 use Rattle.ball_model.proofs.HeldLemmas.{start_held, taken_held, closed_held, joined_held, held_alike, held_repeats, taken_grows, closed_grows, joined_grows, grows_through, IsHeard, taken_is_heard, heard_again, heard_grows}
 use Rattle.ball_model.proofs.JoinLemmas.{join_repeats, join_associates}
 
@@ -239,14 +241,118 @@ in_time_if plan (Some name) h = h.superstep
 pub sent_is_in_time : SentIsInTime
 sent_is_in_time j replicas m es = in_time_if j.plan (slice_get (run_of j (start_world j.plan replicas) es).sent m) ((runs_stay_worlds j replicas es).sent m)
 
-held_if : (j : Job) (p : ℕ) (o : Option Node) → IfSome o (IsWorldNode j p) → IfSome o (λ n. IsHeldBy j p n.content)
-held_if j p None h = tt
-held_if j p (Some n) h = h.content
+-- ---- a message that is gone
+get_below : {X : Type 0} (m : ℕ) (xs : List X) (k : ℕ) → k < m → slice_get (remove xs m) k ≡ slice_get xs k
+get_below zero xs k lt = absurd (omega arith)
+get_below (suc m) [] k lt = refl
+get_below (suc m) (x ∷ xs) zero lt = refl
+get_below (suc m) (x ∷ xs) (suc k) lt = get_below m xs k (omega arith)
+
+get_above : {X : Type 0} (m : ℕ) (xs : List X) (k : ℕ) → m ≤ k → slice_get (remove xs m) k ≡ slice_get xs (suc k)
+get_above zero [] k le = refl
+get_above zero (x ∷ xs) k le = refl
+get_above (suc m) [] k le = refl
+get_above (suc m) (x ∷ xs) zero le = absurd (omega arith)
+get_above (suc m) (x ∷ xs) (suc k) le = get_above m xs k (omega arith)
+
+-- another message is found by its new number
+get_other : {X : Type 0} (m other : ℕ) (xs : List X) → other ≢ m → slice_get (remove xs m) (if nat_lt m other then other - 1 else other) ≡ slice_get xs other
+get_other m other xs ne = elim (cases_lt m other) [
+  | inl lt ↦ let next : other ≡ suc (other - 1) = omega (arith, lt) in rw (lt-ltb m other lt) (get_above m xs (other - 1) (omega (arith, lt)) ∙ ap (slice_get xs) (sym next))
+  | inr le ↦ rw (le-ltb m other le) (get_below m xs other (omega (arith, le, ne)))
+]
+
+-- what an event at a node makes of the world without the message is that of the world, without it
+gone_at : (j : Job) (w : World) (m : ℕ) (n : Node) (e : Event) → m < length w.sent → SparesMessage m e →
+    world_in (without_message m w) (outcome_at j (without_message m w) n (event_without m e)) ≡ without_message m (world_in w (outcome_at j w n e))
+gone_at j w m n (event.Send at q) lt spares = sent (nat_lt q j.plan.parts && not (q == n.content.partition)) refl
+  where
+    sent : (b : Bool) → (nat_lt q j.plan.parts && not (q == n.content.partition)) ≡ b →
+        world_in (without_message m w) (outcome_at j (without_message m w) n (event.Send at q)) ≡ without_message m (world_in w (outcome_at j w n (event.Send at q)))
+    sent false is = rw is refl
+    sent true is = rw is (ap (λ (l : List BatchName). record w { sent = l }) (sym (remove-append_left w.sent (name_to n q ∷ []) m lt)))
+gone_at j w m n (event.Deliver other at) lt spares = rw (get_other m other w.sent spares) (taken (slice_get w.sent other))
+  where
+    taken : (o : Option BatchName) → world_in (without_message m w) (deliver_at j (without_message m w) at n o) ≡ without_message m (world_in w (deliver_at j w at n o))
+    taken None = refl
+    taken (Some name) = refl
+gone_at j w m n (event.Close at) lt spares = refl
+gone_at j w m n (event.Keep at) lt spares = refl
+gone_at j w m n (event.Restart at) lt spares = refl
+gone_at j w m n (event.Copy at) lt spares = refl
+gone_at j w m n (event.Recover at c) lt spares = found (slice_get w.copies c)
+  where
+    joined : (h : Holding) (r : Result (Unit {0}) MergeError) → world_in (without_message m w) (recover_when (without_message m w) at n h r) ≡ without_message m (world_in w (recover_when w at n h r))
+    joined h (Ok u) = refl
+    joined h (Err e) = refl
+
+    found : (o : Option Holding) → world_in (without_message m w) (recover_at (without_message m w) at n o) ≡ without_message m (world_in w (recover_at w at n o))
+    found None = refl
+    found (Some h) = joined h (merge_of n.content.plan n.content.partition h.plan h.partition)
+gone_at j w m n (event.Show at) lt spares = refl
+
+node_without : (m : ℕ) (e : Event) → node_of (event_without m e) ≡ node_of e
+node_without m (event.Send at q) = refl
+node_without m (event.Deliver other at) = refl
+node_without m (event.Close at) = refl
+node_without m (event.Keep at) = refl
+node_without m (event.Restart at) = refl
+node_without m (event.Copy at) = refl
+node_without m (event.Recover at c) = refl
+node_without m (event.Show at) = refl
+
+nodes_without : (m : ℕ) (w : World) (id : NodeId) → node_at (without_message m w) id ≡ node_at w id
+unfolding node_at
+nodes_without m w id = refl
+
+gone_after : (j : Job) (w : World) (m : ℕ) (e : Event) → m < length w.sent → SparesMessage m e →
+    after_event j (without_message m w) (event_without m e) ≡ without_message m (after_event j w e)
+gone_after j w m e lt spares = rw (node_without m e, nodes_without m w (node_of e)) (there (node_at w (node_of e)))
+  where
+    there : (o : Option Node) → world_in (without_message m w) (outcome_unless j (without_message m w) (event_without m e) o) ≡ without_message m (world_in w (outcome_unless j w e o))
+    there None = refl
+    there (Some n) = gone_at j w m n e lt spares
+
+-- no message goes away
+sent_at : (j : Job) (w : World) (n : Node) (e : Event) → length w.sent ≤ length (world_in w (outcome_at j w n e)).sent
+sent_at j w n (event.Send at q) = more (nat_lt q j.plan.parts && not (q == n.content.partition)) refl
+  where
+    more : (b : Bool) → (nat_lt q j.plan.parts && not (q == n.content.partition)) ≡ b → length w.sent ≤ length (world_in w (outcome_at j w n (event.Send at q))).sent
+    more false is = rw is (omega arith)
+    more true is = rw is (omega (arith, length-append w.sent (name_to n q ∷ [])))
+sent_at j w n (event.Deliver other at) = taken (slice_get w.sent other)
+  where
+    taken : (o : Option BatchName) → length w.sent ≤ length (world_in w (deliver_at j w at n o)).sent
+    taken None = omega arith
+    taken (Some name) = omega arith
+sent_at j w n (event.Close at) = omega arith
+sent_at j w n (event.Keep at) = omega arith
+sent_at j w n (event.Restart at) = omega arith
+sent_at j w n (event.Copy at) = omega arith
+sent_at j w n (event.Recover at c) = found (slice_get w.copies c)
+  where
+    joined : (h : Holding) (r : Result (Unit {0}) MergeError) → length w.sent ≤ length (world_in w (recover_when w at n h r)).sent
+    joined h (Ok u) = omega arith
+    joined h (Err e) = omega arith
+
+    found : (o : Option Holding) → length w.sent ≤ length (world_in w (recover_at w at n o)).sent
+    found None = omega arith
+    found (Some h) = joined h (merge_of n.content.plan n.content.partition h.plan h.partition)
+sent_at j w n (event.Show at) = omega arith
+
+sent_after : (j : Job) (w : World) (e : Event) → length w.sent ≤ length (after_event j w e).sent
+sent_after j w e = there (node_at w (node_of e))
+  where
+    there : (o : Option Node) → length w.sent ≤ length (world_in w (outcome_unless j w e o)).sent
+    there None = omega arith
+    there (Some n) = sent_at j w n e
 
 pub loss_leaves_contents : LossLeavesContents
-loss_leaves_contents j replicas before later id =
-    held_if j id.part (node_at (run_of j (start_world j.plan replicas) (before ++ later)) id)
-    ((runs_stay_worlds j replicas (before ++ later)).nodes id)
+unfolding run_of
+loss_leaves_contents j w m [] lt spares = refl
+loss_leaves_contents j w m (e ∷ es) lt spares =
+    ap (λ (v : World). run_of j v (map (event_without m) es)) (gone_after j w m e lt spares.0)
+    ∙ loss_leaves_contents j (after_event j w e) m es (let grows = sent_after j w e in omega (arith, lt, grows)) spares.1
 
 -- ---- one event
 -- it changes at most its own node

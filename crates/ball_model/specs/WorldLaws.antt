@@ -1,6 +1,6 @@
 -- What the events of a world mean, in the subject's own words. Each is the contract of a function of src/world.rt.
-use Rattle.std.specs.Prelude.{◌≡◌, ◌≢◌, ⊤, ℕ, ◌≤◌, List, ◌++◌, Some, IfSome, option_map, Ok, IsOk}
-use Rattle.std.specs.List.{AllByRecursion, slice_get}
+use Rattle.std.specs.Prelude.{◌≡◌, ◌≢◌, ⊤, ℕ, ◌-◌, ◌<◌, ◌≤◌, nat_lt, if◌then◌else◌, List, map, length, Some, IfSome, option_map, Ok, IsOk}
+use Rattle.std.specs.List.{AllByRecursion, remove, slice_get}
 use Rattle.ball_model.specs.declared.names.NodeId.{NodeId}
 use Rattle.ball_model.specs.declared.names.Taken.{Taken}
 use Rattle.ball_model.specs.declared.names.Taken.TheVariants as taken
@@ -34,12 +34,28 @@ SentIsInTime = (j : Job) (replicas m : ℕ) (es : List Event) →
     IfSome (slice_get (run_of j (start_world j.plan replicas) es).sent m)
     (λ name. name.superstep ≤ j.plan.limit)
 
--- a loss: where a delivery is left out between the events before it and those that follow, each node still has a
--- content of the same job
+-- the event delivers another message, or none
+abbrev pub SparesMessage : ℕ → Event → Type 0
+SparesMessage m (event.Deliver other id) = other ≢ m
+SparesMessage m e = ⊤
+
+-- the world in which message m was never sent
+abbrev pub without_message : ℕ → World → World
+without_message m w = record w { sent = remove w.sent m }
+
+-- and the event there: the messages behind m have numbers that are one less
+abbrev pub event_without : ℕ → Event → Event
+event_without m (event.Deliver other id) =
+    event.Deliver (if nat_lt m other then other - 1 else other) id
+event_without m e = e
+
+-- a loss: a message that is delivered to no node may stand or be gone, whatever else happens: each node and each copy is
+-- the same, and so are the other messages
 abbrev pub LossLeavesContents : Type 0
-LossLeavesContents = (j : Job) (replicas : ℕ) (before later : List Event) (id : NodeId) →
-    IfSome (node_at (run_of j (start_world j.plan replicas) (before ++ later)) id)
-    (λ n. IsHeldBy j id.part n.content)
+LossLeavesContents = (j : Job) (w : World) (m : ℕ) (es : List Event) → m < length w.sent →
+    AllByRecursion (SparesMessage m) es →
+    run_of j (without_message m w) (map (event_without m) es)
+    ≡ without_message m (run_of j w es)
 
 -- an event at another node changes nothing at a node
 abbrev pub OthersStay : Type 0

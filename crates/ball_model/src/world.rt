@@ -124,6 +124,7 @@ pub fn steps_stay_held()
 
 /// Whatever is lost, comes twice or comes too early, a world stays one of its job: after any list of events each node
 /// has, keeps and is copied with a content of its partition, and what is sent is of a superstep of at most the limit.
+/// A message that is lost may as well never have been sent: the nodes and the copies come to the same.
 pub fn runs_stay_worlds()
     ensures stay { RunsStayWorlds }
     ensures in_time { SentIsInTime }
