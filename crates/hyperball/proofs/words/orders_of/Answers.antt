@@ -1,4 +1,4 @@
-use Rattle.std.proofs.Common.{◌∙◌, ◌||◌, Bool, ap, codes, refl, sym}
+use Rattle.std.proofs.Common.{◌∙◌, ◌||◌, Bool, ap, codes, sym}
 use Rattle.std.proofs.Math.Bool.{or-true}
 use Rattle.std.specs.Prelude.{is_some}
 use Rattle.clap.specs.Words.{first_of, found_of, rows_of}

@@ -1,4 +1,4 @@
-use Rattle.std.proofs.Common.{◌≡◌, ◌∙◌, true, false, ap, refl, subst, sym}
+use Rattle.std.proofs.Common.{◌≡◌, ◌∙◌, true, ap, refl, subst, sym}
 use Rattle.node.specs.declared.error.GatherError.TheVariants as fault
 use Rattle.std.specs.List.{All}
 use Rattle.ball_model.specs.Job.{Job, job_of}
