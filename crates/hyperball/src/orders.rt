@@ -1,7 +1,7 @@
 //! Lists of orders: which replicas are lost or start anew, each at a superstep.
 
-ghost use Rattle.std.specs.Prelude.{◌≡◌, ◌<◌, ◌^◌, Err, IfOk, List, MatchResult, decimal, false, true};
-ghost use Rattle.std.specs.Prelude.{ℕ};
+ghost use Rattle.std.specs.Prelude.{◌≡◌, ◌<◌, ◌^◌, Err, IfOk, List, MatchResult, decimal, false};
+ghost use Rattle.std.specs.Prelude.{true, ℕ};
 ghost use Rattle.ball_model.specs.WorldText.{node_word};
 ghost use Rattle.ball_model.specs.declared.names.NodeId.{NodeId as Node};
 ghost use Rattle.hyperball.specs.Orders.{AreOrders, IsNodeName, IsOrder, Reads, has_plain_digits};
