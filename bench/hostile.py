@@ -3,7 +3,7 @@
 
 Usage: bench/hostile.py [INPUTS [SECONDS [SEED]]]   (1000 inputs of each kind, for at most 600 seconds each, seed 0)
        bench/hostile.py refused   (refused memory, failing streams and lost workers alone, as the gate has it)
-       bench/hostile.py program   (the same without the tests of refused calls, which only the gate builds)
+       bench/hostile.py program   (the same without large runs, and without the tests of refused calls, which only the gate builds)
 
 Inputs are random bytes, right ones with a few bytes changed, and scripts of random commands; a kind's inputs depend on
 its name and the seed alone. Each run is a process of its own. It has to end by itself, with status 0 and nothing told,
@@ -310,19 +310,32 @@ def growth_refused(shim):
 
 
 def refused_in_threads(shim):
-    """Supersteps in which so many rows change that threads share them: whichever thread is not to be had, and whichever of
-    the last allocations, the report is the same, or the run says that memory was refused and has written nothing."""
+    """Supersteps in which so many rows change that threads share them (from 16 MiB of registers on): however many threads
+    are asked for the report is the same, and so it is whichever thread is not to be had. Whichever of the last allocations
+    is refused, it is the same too, or the run says that memory was refused and has written nothing."""
     chance = random.Random("threads")
-    data = "".join(f"{chance.randrange(40000)}\t{chance.randrange(40000)}\n" for _ in range(100000)).encode()
-    words = ["run", "--limit", "2", "--threads", "4"]
-    report = ran(["run", "--limit", "2", "--threads", "1"], data)[1]
+    words = ["run", "--log2m", "10", "--limit", "2"]
+    four = [*words, "--threads", "4"]
 
-    def holds(status, output, faults):
-        return (status, output, faults) in [(1, b"", b"hyperball: out of memory\n"), (0, report, b"")]
+    def edges(vertices):
+        return "".join(f"{chance.randrange(vertices)}\t{chance.randrange(vertices)}\n" for _ in range(100000)).encode()
 
-    each_call("a thread refused: large supersteps", words, data, shim, "REFUSE_THREAD", holds)
-    last = how_many(words, data, shim, "REFUSE_ALLOC")
-    each_call("memory refused: large supersteps", words, data, shim, "REFUSE_ALLOC", holds, first=max(1, last - 60))
+    def holds(report):
+        return lambda *answer: answer in [(1, b"", b"hyperball: out of memory\n"), (0, report, b"")]
+
+    data = edges(40000)
+    report = ran([*words, "--threads", "1"], data)[1]
+    ways = (["--threads", "2"], ["--threads", "3"], ["--threads", "8"], ["--threads", "4", "--keep", "0"],
+            ["--threads", "4", "--parts", "2"], ["--threads", "8", "--parts", "2", "--replicas", "2"])
+    bad = [(it,) for it in ways if ran([*words, *it], data) != (0, report, b"")]
+    count("large supersteps, other numbers of threads", len(ways), bad)
+    one, two = (how_many(["run", "--log2m", "10", "--limit", it, "--threads", "4"], data, shim, "REFUSE_THREAD") for it in "12")
+    count("threads start in each large superstep", 2, [] if one < two else [(one, two)])
+    each_call("a thread refused: large supersteps", four, data, shim, "REFUSE_THREAD", holds(report))
+    data = edges(20000)
+    report = ran([*words, "--threads", "1"], data)[1]
+    last = how_many(four, data, shim, "REFUSE_ALLOC")
+    each_call("memory refused: large supersteps", four, data, shim, "REFUSE_ALLOC", holds(report), first=max(1, last - 220))
 
 
 def refusals(shim):
@@ -511,8 +524,9 @@ def main():
             if words != ["program"]:
                 refused_calls(shim)
             refusals(shim)
-            growth_refused(shim)
-            refused_in_threads(shim)
+            if words != ["program"]:
+                growth_refused(shim)
+                refused_in_threads(shim)
         else:
             print("no cc: refused memory and failing streams are not tried")
     return 1 if wrong else 0

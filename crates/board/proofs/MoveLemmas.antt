@@ -11,10 +11,10 @@ use Rattle.atomic_table.specs.Table.{State, Me, Step, step, Act, keeps, takes, g
 use Rattle.atomic_table.proofs.Lists.{set_again, set_else, one_turn}
 use Rattle.board.specs.View.{View}
 use Rattle.ball_model.specs.History.{History, Begins, entries_of, calls_by}
-use Rattle.board.specs.Rule.{total, room_of, tickets_of, FitsLog, IsKeptSafe, IsLocked, with_ticket, at_turn, after_turn, DrewTicket, LookedIfServed, LookedAtServing, WroteLength, RaisedServing}
+use Rattle.board.specs.Rule.{total, room_of, tickets_of, IsNotOf, FitsLog, IsKeptSafe, IsLocked, with_ticket, at_turn, after_turn, DrewTicket, LookedIfServed, LookedAtServing, WroteLength, RaisedServing}
 use Rattle.board.specs.Turn.{GoesOnBySeat}
 use Rattle.ball_model.proofs.HistoryLemmas.{begins_self, begins_trans}
-use Rattle.board.proofs.ViewLemmas.{accounted_more, accounted_set, total_set, total_le, each_set, apart_set, set_at, not_of}
+use Rattle.board.proofs.ViewLemmas.{total_set, total_le, each_set, apart_set, set_at}
 
 -- what a step tells does not ask which step it is
 abbrev pub still : Step (Option History)
@@ -95,8 +95,6 @@ draws slots id v idle live s h len at small =
               record { numbers = a.numbers; tickets = λ _ p q. let o = g.out p in omega arith; told = a.told },
               record { numbers = b.numbers; tickets = λ p _ q. let o = g.out p in omega arith; told = b.told },
             ));
-        ended = h.ended;
-        accounted = accounted_set h.log s.views h.ended id v w at refl refl h.accounted;
       },
       (h.next, sym n, refl),
     )
@@ -152,8 +150,6 @@ looks slots id v waits s h len at small = go (slice_index s.words 2 == v.ticket 
       home = h.home;
       each = h.each;
       apart = h.apart;
-      ended = h.ended;
-      accounted = h.accounted;
     }
 
     go : (b : Bool) → (slice_index s.words 2 == v.ticket % 2 ^ 64) ≡ b → LookOwes s id v b
@@ -197,8 +193,6 @@ looks slots id v waits s h len at small = go (slice_index s.words 2 == v.ticket 
                   record { numbers = a.numbers; tickets = λ _ p. a.tickets (omega arith) p; told = a.told },
                   record { numbers = b.numbers; tickets = λ p _. b.tickets p (omega arith); told = b.told },
                 ));
-            ended = h.ended;
-            accounted = accounted_set h.log s.views h.ended id v w at refl refl h.accounted;
           },
           (h.log, (f.begins o.0, f.own o.0, h.legal, f.unused, (let l = f.limit_is o.0 in let m = h.fits in omega arith)), refl),
         )
@@ -210,6 +204,9 @@ away s h id v at turn = ⊎_elim
     (λ (a : (s.homes ≡ some (Some h.log) ∷ []) × ((i : ℕ) (u : View) → get_elem? s.views i ≡ some u → u.stage ≢ 2)). absurd (a.1 id v at turn))
     (λ (b : (s.homes ≡ none ∷ []) × ((i : ℕ) × (u : View) × (get_elem? s.views i ≡ some u) × (u.stage ≡ 2))). b.0)
     h.home
+
+not_of : (k : ℕ) (v : View) → 0 < v.room → IsNotOf k v → k ≢ v.number
+not_of k v live n e = ⊎_elim (λ (a : k < v.number). omega arith) (λ (b : v.number + v.room ≤ k). omega arith) n
 
 other_number : (v u : View) (k : ℕ) → (v.number + v.room ≤ u.number) ⊎ (u.number + u.room ≤ v.number) → 0 < v.room → u.number ≤ k → k < u.number + u.room → k ≢ v.number
 other_number v u k apart live le lt e = ⊎_elim (λ (a : v.number + v.room ≤ u.number). omega arith) (λ (b : u.number + u.room ≤ v.number). omega arith) apart
@@ -278,8 +275,6 @@ writes slots id v book turn next s h len at small =
               record { numbers = a.numbers; tickets = λ _ p. a.tickets (omega arith) p; told = a.told },
               record { numbers = b.numbers; tickets = λ p _. b.tickets p (omega arith); told = b.told },
             ));
-        ended = h.ended;
-        accounted = accounted_set book s.views h.ended id v w at refl refl (accounted_more h.log book s.views h.ended id v at o.0 others h.accounted);
       },
       λ log e. ap (λ (l : History). (at_turn v l, (0, Some book) ∷ [])) (carried_book e),
     )
@@ -341,8 +336,6 @@ raises slots id v turn s h len at small =
               record { numbers = a.numbers; tickets = λ p. absurd (omega arith); told = a.told },
               record { numbers = b.numbers; tickets = λ _ p. absurd (omega arith); told = b.told },
             ));
-        ended = h.ended;
-        accounted = accounted_set h.log s.views h.ended id v w at refl refl h.accounted;
       },
       refl,
     )

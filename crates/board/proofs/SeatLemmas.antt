@@ -2,19 +2,18 @@
 use Rattle.std.proofs.Common.{◌≡◌, ◌≢◌, ◌⊎◌, ℕ, zero, suc, ◌+◌, ◌-◌, ◌<◌, ◌≤◌, min, List, [], ◌∷◌, ◌++◌, length, set, Option, Some, refl, sym, ap, ◌∙◌, subst, inl, inr, ⊎_elim, arith}
 use Rattle.std.specs.Prelude.{slice_index}
 use Rattle.std.proofs.Math.Logic.{⊎_swap}
-use Rattle.std.proofs.lemmas.Bool.{cases_lt}
 use Rattle.std.proofs.lemmas.Option.{none-some}
 use mathlib.Core.Option.{some, none, some-injective, some-ne-none}
 use lib.ListN.{get_elem?}
 use lib.Seq.{set-get_or}
 use Rattle.atomic_table.specs.Table.{State, Me, keeps, Allows, Splits, Joins, opening}
-use Rattle.atomic_table.proofs.Lists.{set_else, at_longer, at_set}
+use Rattle.atomic_table.proofs.Lists.{set_else, at_longer}
 use Rattle.board.specs.View.{View, EndedSeat, spent_view}
 use Rattle.ball_model.specs.History.{History, Begins, entries_of, events_by, calls_by, IsLegal}
-use Rattle.board.specs.Rule.{room_of, tickets_of, IsNotOf, FitsLog, AreAccounted, AreApart, IsKeptSafe, IsLocked, at_look, LookedAtLength, share, keeper, newcomer, with_news, first_view}
+use Rattle.board.specs.Rule.{room_of, tickets_of, IsNotOf, FitsLog, AreApart, IsKeptSafe, IsLocked, at_look, LookedAtLength, share, keeper, newcomer, with_news, first_view}
 use Rattle.board.specs.declared.seat.TheConstants.{SHARE}
 use Rattle.ball_model.proofs.HistoryLemmas.{begins_self, calls_by-none}
-use Rattle.board.proofs.ViewLemmas.{accounted_set, same_numbers, total_set, total_push, each_set, each_push, each_unset, apart_set, apart_set_on, apart_push}
+use Rattle.board.proofs.ViewLemmas.{total_set, total_push, each_set, each_push, apart_set, apart_set_on, apart_push}
 use Rattle.board.proofs.MoveLemmas.{still, home_same}
 
 pub counts : (slots id : ℕ) (v : View) → v.stage ≡ 0 → 0 < v.room → Allows IsLocked slots id (v, []) 0 (λ n. n) (LookedAtLength still (v, []))
@@ -57,8 +56,6 @@ counts slots id v idle live s h len at small =
               record { numbers = a.numbers; tickets = λ p. absurd (omega arith); told = λ t q. absurd (none-some t q) },
               record { numbers = b.numbers; tickets = λ _ p. absurd (omega arith); told = b.told },
             ));
-        ended = h.ended;
-        accounted = accounted_set h.log s.views h.ended id v w at refl refl h.accounted;
       },
       (h.log, (f.begins live, f.own live, h.legal, f.unused, (let l = f.limit_is live in let m = h.fits in omega arith)), sym (ap (λ (ws : List ℕ). slice_index ws 0) h.words), (λ t e. let g = f.told t e in (g.0, g.1)), refl),
     )
@@ -82,40 +79,6 @@ home_push log s w nw home =
     (λ (a : (s.homes ≡ some (Some log) ∷ []) × ((i : ℕ) (u : View) → get_elem? s.views i ≡ some u → u.stage ≢ 2)). inl (a.0, each_push (λ u. u.stage ≢ 2) s.views w nw a.1))
     (λ (b : (s.homes ≡ none ∷ []) × ((i : ℕ) × (u : View) × (get_elem? s.views i ≡ some u) × (u.stage ≡ 2))). inr (b.0, (b.1.0, b.1.1, at_longer s.views (w ∷ []) b.1.0 b.1.1 b.1.2, b.1.3)))
     home
-
--- a number is none of a seat's, where it is none of either part's
-both_parts : (v : View) (k : ℕ) → share v.room < v.room → IsNotOf k (keeper v) → IsNotOf k (newcomer v) → IsNotOf k v
-both_parts v k less kept new =
-    let d : ℕ = share v.room in
-    ⊎_elim
-    (λ (a : k < v.number). inl a)
-    (λ (b : v.number + (v.room - d) ≤ k). ⊎_elim
-    (λ (c : k < v.number + (v.room - d)). absurd (omega arith))
-    (λ (c : v.number + (v.room - d) + d ≤ k). inr (omega arith))
-    new)
-    kept
-
-at_end : (views : List View) (w : View) → get_elem? (views ++ w ∷ []) (length views) ≡ some w
-at_end [] w = refl
-at_end (u ∷ us) w = at_end us w
-
-accounted_split : (log : History) (views : List View) (ended : List EndedSeat) (id : ℕ) (v : View) → get_elem? views id ≡ some v → share v.room < v.room → AreAccounted log views ended →
-    AreAccounted log (set views id (keeper v) ++ newcomer v ∷ []) ended
-accounted_split log views ended id v at less h =
-    let d : ℕ = share v.room in
-    let kept : List View = set views id (keeper v) in
-    let high : v.number + (v.room - d) ≤ v.number + v.room = omega arith in
-    let part : v.number + (v.room - d) + d ≤ v.number + v.room = omega arith in
-    record {
-      stays = h.stays;
-      apart = λ i j t u e f.
-          let n = h.apart i id t v e at in
-          each_push (IsNotOf t.number) kept (newcomer v) (part_of v (newcomer v) (omega arith) part t.number n)
-          (each_set (IsNotOf t.number) views id (keeper v) (part_of v (keeper v) (omega arith) high t.number n) (λ k x _ q. h.apart i k t x e q)) j u f;
-      unused = λ k none gone. h.unused k
-          (each_unset (IsNotOf k) views id v (keeper v) at (λ n. both_parts v k less n (none (length kept) (newcomer v) (at_end kept (newcomer v))))
-          (λ j u e. none j u (at_longer kept (newcomer v ∷ []) j u e))) gone;
-    }
 
 pub shares : (id : ℕ) (v : View) → v.stage ≡ 0 → SHARE ≤ v.room → Splits IsLocked id v (keeper v) (newcomer v)
 shares id v idle enough s h at =
@@ -181,46 +144,7 @@ shares id v idle enough s h at =
             record { numbers = apart_part v n u (omega arith) (omega arith) a.numbers; tickets = λ p. absurd (omega arith); told = λ t q. absurd (none-some t q) },
             record { numbers = ⊎_swap (apart_part v n u (omega arith) (omega arith) a.numbers); tickets = λ _ p. absurd (omega arith); told = λ t q. part_of v n (omega arith) (omega arith) t.number (b.told t q) },
           )));
-      ended = h.ended;
-      accounted = accounted_split h.log s.views h.ended id v at sh.1 h.accounted;
     }
-
--- a number is one of a seat's or none
-in_or_out : (k : ℕ) (w : View) → ((w.number ≤ k) × (k < w.number + w.room)) ⊎ IsNotOf k w
-in_or_out k w = ⊎_elim
-    (λ (a : k < w.number). inr (inl a))
-    (λ (a : w.number ≤ k). ⊎_elim (λ (b : k < w.number + w.room). inl (a, b)) (λ (b : w.number + w.room ≤ k). inr (inr b)) (cases_lt k (w.number + w.room)))
-    (cases_lt k w.number)
-
-accounted_join : (log : History) (views : List View) (ended : List EndedSeat) (id : ℕ) (v : View) (other : ℕ) (w : View) → get_elem? views id ≡ some v → get_elem? (set views id (with_news v w)) other ≡ some w →
-    IsNotOf w.number v → 0 < w.room → calls_by w.number log ≡ calls_by w.number w.seen → ((k : ℕ) → w.number < k → k < w.number + w.room → calls_by k log ≡ []) →
-    ((j : ℕ) (x : View) → j ≢ other → get_elem? views j ≡ some x → IsNotOf w.number x) → AreAccounted log views ended →
-    AreAccounted log (set (set views id (with_news v w)) other spent_view) (record { number = w.number; seen = w.seen } ∷ ended)
-accounted_join log views ended id v other w at at_w not_v live own unused others h = record {
-  stays = λ i t e. stay i t e;
-  apart = λ i j t x e f. part i j t x e f;
-  unused = λ k none gone. ⊎_elim
-      (λ (a : (w.number ≤ k) × (k < w.number + w.room)). let low = a.0 in let apart = gone 0 (record { number = w.number; seen = w.seen }) refl in unused k (omega (arith, low, apart)) a.1)
-      (λ (n : IsNotOf k w). h.unused k
-      (each_unset (IsNotOf k) views id v u at (same_numbers u v k refl refl) (each_unset (IsNotOf k) (set views id u) other w spent_view at_w (λ _. n) none))
-      (λ i t e. gone (suc i) t e))
-      (in_or_out k w);
-}
-  where
-    u : View
-    u = with_news v w
-
-    stay : (i : ℕ) (t : EndedSeat) → get_elem? (record { number = w.number; seen = w.seen } ∷ ended) i ≡ some t → calls_by t.number log ≡ calls_by t.number t.seen
-    stay zero t e = subst (λ (x : EndedSeat). calls_by x.number log ≡ calls_by x.number x.seen) (some-injective _ t e) own
-    stay (suc i) t e = h.stays i t e
-
-    spread : (n : ℕ) → IsNotOf n v → ((j : ℕ) (x : View) → j ≢ other → get_elem? views j ≡ some x → IsNotOf n x) → (j : ℕ) (x : View) → get_elem? (set (set views id u) other spent_view) j ≡ some x → IsNotOf n x
-    spread n here all = each_set (IsNotOf n) (set views id u) other spent_view (inr (omega arith))
-        (λ j x q e. ⊎_elim (λ (a : (j ≡ id) × (u ≡ x)). subst (IsNotOf n) a.1 (same_numbers v u n refl refl here)) (λ (b : (j ≢ id) × (get_elem? views j ≡ some x)). all j x q b.1) (at_set views id j u x e))
-
-    part : (i j : ℕ) (t : EndedSeat) (x : View) → get_elem? (record { number = w.number; seen = w.seen } ∷ ended) i ≡ some t → get_elem? (set (set views id u) other spent_view) j ≡ some x → IsNotOf t.number x
-    part zero j t x e f = subst (λ (y : EndedSeat). IsNotOf y.number x) (some-injective _ t e) (spread w.number not_v others j x f)
-    part (suc i) j t x e f = spread t.number (h.apart i id t v e at) (λ k y _ q. h.apart i k t y e q) j x f
 
 pub tells : (id : ℕ) (v : View) (other : ℕ) (w : View) → v.stage ≡ 0 → w.stage ≡ 0 → 0 < v.room → 0 < w.room → Joins IsLocked id v other w (with_news v w) spent_view
 tells id v other w idle idle' live live' s h at ne at' =
@@ -284,9 +208,6 @@ tells id v other w idle idle' live live' s h at ne at' =
             record { numbers = inl (omega arith); tickets = λ p. absurd (omega arith); told = λ t p. absurd (none-some t p) },
             record { numbers = inr (omega arith); tickets = λ _ p. absurd (omega arith); told = λ t p. inr (omega arith) },
           )) j k x y tt tt n e e';
-      ended = record { number = w.number; seen = w.seen } ∷ h.ended;
-      accounted = accounted_join h.log s.views h.ended id v other w at at' not_v live' (g.own live') g.unused
-          (λ j x q e. let c = h.apart other j w x (λ r. q (sym r)) at_w e in ⊎_elim (λ (a : w.number + w.room ≤ x.number). inl (omega arith)) (λ (a : x.number + x.room ≤ w.number). inr (omega arith)) c.numbers) h.accounted;
     }
 
 pub opens : (log : History) (limit : ℕ) → log.calls ≡ [] → IsLegal log → 1 ≤ limit → IsLocked (opening (1 ∷ 0 ∷ 0 ∷ []) (Some log ∷ []) (first_view log limit))
@@ -313,12 +234,6 @@ opens log limit first legal le =
         told = λ t e. absurd (none-some t e);
       };
       apart = λ i j v w ne e f. absurd (ne (zero_at i v e ∙ sym (zero_at j w f)));
-      ended = [];
-      accounted = record {
-        stays = λ i t e. absurd (some-ne-none t (sym e));
-        apart = λ i j t v e f. absurd (some-ne-none t (sym e));
-        unused = λ k none gone. ap (events_by k) first;
-      };
     }
   where
     only : (K : View → Type 0) → K (first_view log limit) → (i : ℕ) (v : View) → get_elem? (first_view log limit ∷ []) i ≡ some v → K v

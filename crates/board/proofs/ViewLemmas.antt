@@ -2,11 +2,9 @@
 use Rattle.std.proofs.Common.{◌≡◌, ◌≢◌, inl, inr, ◌⊎◌, ℕ, zero, suc, ◌+◌, ◌<◌, ◌≤◌, List, [], ◌∷◌, ◌++◌, length, set, refl, sym, ap, ◌∙◌, subst, ⊎_elim, arith}
 use mathlib.Core.Option.{some, some-injective, some-ne-none}
 use lib.ListN.{get_elem?}
-use Rattle.std.proofs.lemmas.Bool.{cases_eq}
-use Rattle.atomic_table.proofs.Lists.{at_set, set_else}
-use Rattle.ball_model.specs.History.{History, calls_by}
-use Rattle.board.specs.View.{View, EndedSeat}
-use Rattle.board.specs.Rule.{total, AreAccounted, AreApart, IsNotOf}
+use Rattle.atomic_table.proofs.Lists.{at_set}
+use Rattle.board.specs.View.{View}
+use Rattle.board.specs.Rule.{total, AreApart}
 
 pub total_set : (f : View → ℕ) (views : List View) (i : ℕ) (v w : View) → get_elem? views i ≡ some v → total f (set views i w) + f v ≡ total f views + f w
 total_set f [] i v w e = absurd (some-ne-none v (sym e))
@@ -78,33 +76,3 @@ apart_push views w old new j k u x ne e f =
     (λ (b : (w ≡ x) × (k ≡ length views)). absurd (ne (a.1 ∙ sym b.1)))
     (at_push views w x k f))
     (at_push views w u j e)
-
--- what holds with one view in place of another, and so of that other, holds of all
-pub each_unset : (K : View → Type 0) (views : List View) (i : ℕ) (v w : View) → get_elem? views i ≡ some v → (K w → K v) → ((j : ℕ) (u : View) → get_elem? (set views i w) j ≡ some u → K u) → (j : ℕ) (u : View) → get_elem? views j ≡ some u → K u
-each_unset K views i v w at back all j u e = elim (cases_eq j i) [
-  | inl same ↦ subst K (some-injective v u (sym at ∙ (ap (get_elem? views) (sym same) ∙ e))) (back (all i w (set_at views i v w at)))
-  | inr ne ↦ all j u (set_else views i j w ne ∙ e)
-]
-
--- ---- numbers that have entries
-pub not_of : (k : ℕ) (v : View) → 0 < v.room → IsNotOf k v → k ≢ v.number
-not_of k v live n e = ⊎_elim (λ (a : k < v.number). omega arith) (λ (b : v.number + v.room ≤ k). omega arith) n
-
-pub same_numbers : (v w : View) (k : ℕ) → w.number ≡ v.number → w.room ≡ v.room → IsNotOf k v → IsNotOf k w
-same_numbers v w k number room n = ⊎_elim (λ (a : k < v.number). inl (omega (arith, a, number))) (λ (b : v.number + v.room ≤ k). inr (omega (arith, b, number, room))) n
-
--- a view of the same numbers takes the place of another
-pub accounted_set : (log : History) (views : List View) (ended : List EndedSeat) (id : ℕ) (v w : View) → get_elem? views id ≡ some v → w.number ≡ v.number → w.room ≡ v.room → AreAccounted log views ended → AreAccounted log (set views id w) ended
-accounted_set log views ended id v w at number room h = record {
-  stays = h.stays;
-  apart = λ i j t u e f. each_set (IsNotOf t.number) views id w (same_numbers v w t.number number room (h.apart i id t v e at)) (λ k x _ q. h.apart i k t x e q) j u f;
-  unused = λ k none gone. h.unused k (each_unset (IsNotOf k) views id v w at (same_numbers w v k (sym number) (sym room)) none) gone;
-}
-
--- a seat adds entries of its own
-pub accounted_more : (log book : History) (views : List View) (ended : List EndedSeat) (id : ℕ) (v : View) → get_elem? views id ≡ some v → 0 < v.room → ((k : ℕ) → k ≢ v.number → calls_by k book ≡ calls_by k log) → AreAccounted log views ended → AreAccounted book views ended
-accounted_more log book views ended id v at live others h = record {
-  stays = λ i t e. others t.number (not_of t.number v live (h.apart i id t v e at)) ∙ h.stays i t e;
-  apart = h.apart;
-  unused = λ k none gone. others k (not_of k v live (none id v at)) ∙ h.unused k none gone;
-}

@@ -52,16 +52,6 @@ pub record AreApart (v w : View) : Type 0 where
   pub tickets : 0 < v.stage → 0 < w.stage → v.ticket ≢ w.ticket
   pub told : (t : EndedSeat) → v.told ≡ Some t → IsNotOf t.number w
 
--- whose numbers have entries: a seat that ended has those that it had, and a number has none that is no seat's, not one
--- that a seat may make, and was no ended seat's
-pub record AreAccounted (log : History) (views : List View) (ended : List EndedSeat) : Type 0 where
-  pub stays : (i : ℕ) (t : EndedSeat) → get_elem? ended i ≡ some t →
-      calls_by t.number log ≡ calls_by t.number t.seen
-  pub apart : (i j : ℕ) (t : EndedSeat) (v : View) → get_elem? ended i ≡ some t →
-      get_elem? views j ≡ some v → IsNotOf t.number v
-  pub unused : (k : ℕ) → ((j : ℕ) (v : View) → get_elem? views j ≡ some v → IsNotOf k v) →
-      ((i : ℕ) (t : EndedSeat) → get_elem? ended i ≡ some t → t.number ≢ k) → calls_by k log ≡ []
-
 -- the book is at home, or out with the seat whose turn it is
 abbrev pub IsKeptSafe : History → State (Option History) View → Type 0
 IsKeptSafe log s =
@@ -71,8 +61,7 @@ IsKeptSafe log s =
     × ((i : ℕ) × (v : View) × (get_elem? s.views i ≡ some v) × (v.stage ≡ 2)))
 
 -- the rule: there is one legal history, whose length is word 0; words 1 and 2 are the next ticket and the one that is
--- served, modulo 2^64, and the tickets between them are out; each seat knows what fits, and each two are apart; no
--- number has entries but that of a seat, or of one that ended
+-- served, modulo 2^64, and the tickets between them are out; each seat knows what fits, and each two are apart
 pub record IsLocked (s : State (Option History) View) : Type 0 where
   pub log : History
   pub next : ℕ
@@ -87,8 +76,6 @@ pub record IsLocked (s : State (Option History) View) : Type 0 where
   pub each : (i : ℕ) (v : View) → get_elem? s.views i ≡ some v → FitsLog limit log next serving v
   pub apart : (i j : ℕ) (v w : View) → i ≢ j → get_elem? s.views i ≡ some v →
       get_elem? s.views j ≡ some w → AreApart v w
-  pub ended : List EndedSeat
-  pub accounted : AreAccounted log s.views ended
 
 abbrev pub SeatHas : Type 0
 SeatHas = Me (Option History) View

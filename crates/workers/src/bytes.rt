@@ -350,8 +350,9 @@ fn write_text<W: CountedWrite>(writer: &mut W, text: &Pages) -> Result<(), RunEr
 ///
 /// In this order: `Options`, before anything is read; `Edges`, `Counted` and `Plan`; where some partition has no node
 /// that reached the end `PartitionLost`, `BookFull`, `Memory` and `Starved`, the first that the nodes' ends give; then
-/// `Write`. `Memory` is also answered where the run's own growth is refused, of the report's text too. Which of the nodes' faults it is may
-/// depend on the schedule, but the report does not: it is that of the input, whatever nodes were lost or started anew.
+/// `Write`. `Memory` is also answered where the run's own growth is refused, of the report's text too. Which of the
+/// nodes' faults it is may depend on the schedule, but the report does not: it is that of the input, whatever nodes were
+/// lost or started anew.
 ///
 /// Memory is some two times 2^log2m bytes and 40 bytes of figures and weights a vertex and replica; where snapshots are
 /// kept, 2^log2m and 32 bytes more, and of each snapshot the accumulators where what is heard has raised a row; 4 bytes a
