@@ -35,7 +35,7 @@ COLUMNS = ["graph", "program", "vertices", "records", "supersteps", "reading, s"
 
 def run(words, path, report):
     """This program on a list, with its progress."""
-    return watched([PROGRAM, "run", "--keep", "0", "--progress", *words], path, report, environment(one_heap=True))
+    return watched([PROGRAM, "run", "--keep", "0", "--progress", *words], path, report, environment(one_heap=True, large="--large" in words))
 
 
 def run_other(other, log2m, path, report):

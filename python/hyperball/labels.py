@@ -12,7 +12,10 @@ b'a\\tb\\nb\\t\\xff0\\n\\xff1\\n'
 from __future__ import annotations
 
 import operator
+from contextlib import suppress
+from decimal import Decimal
 from itertools import chain
+from numbers import Real
 from typing import Any, Dict, Hashable, List, Optional, Sequence, Tuple
 
 Record = Tuple[Any, ...]
@@ -82,8 +85,10 @@ def _checked(label: Any) -> Any:
         return label
     if _is_missing(label):
         raise ValueError(f"a label is missing: {label!r}")
-    if isinstance(label, float) and label.is_integer():
-        return int(label)
+    if isinstance(label, (Real, Decimal)):  # (2.0, Decimal(2) and numpy's are 2)
+        with suppress(ValueError, OverflowError):
+            if int(label) == label:
+                return int(label)
     try:
         hash(label)
     except TypeError:

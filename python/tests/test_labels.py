@@ -43,6 +43,7 @@ class LabelsComeBack(unittest.TestCase):
 
     def test_equal_labels_are_one_vertex(self):
         self.assertEqual(labels_of([(1, 2.0), (2, True), (1.0, 3)]), [1, 2, 3])
+        self.assertEqual(labels_of([(2, Decimal(2)), (2.0, 3), (Decimal("2.5"), 1.5)]), [2, 3, Decimal("2.5"), 1.5])
 
     def test_many_of_one_kind_and_then_one_of_another(self):
         edges = [(i, i + 1) for i in range(10000)] + [("end", 0), (("a", 1), "end")]
