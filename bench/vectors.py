@@ -1,8 +1,8 @@
 #!/usr/bin/env python3
-"""Writes the batches and checkpoints that tests bring to nodes and gatherings, and want of them.
+"""Writes the batches and checkpoints that cases and tests bring to nodes and gatherings, and want of them.
 
-Usage: vectors.py > crates/node/src/tests/vectors.rt
-       vectors.py hyperball > crates/hyperball/src/tests/vectors.rt
+Usage: vectors.py > examples/cases/vectors.txt
+       vectors.py tests > crates/node/src/tests/vectors.rt, and the same of crate hyperball
 
 All is made from docs/DEFINITIONS.md (balls, hashes, counters, figures) and docs/FORMATS.md (the bytes) by the standard
 library alone, and nothing of it by the program: where a node answers the same bytes, two programs agree. The job has
@@ -206,7 +206,7 @@ def halves(digest):
     return [digest[:16], digest[16:]]
 
 
-# Literals.
+# Pieces of cases, and literals.
 
 WIDTH = 100  # of a line in the layout of `rt fmt`
 
@@ -215,132 +215,121 @@ def spelled(byte):
     return f"\\x{byte:02x}" if byte else "\\0"
 
 
-def literal(groups):
-    """The groups as a byte string, with a line for each. Marks of four letters stand as letters."""
-    lines = []
+def lines_of(groups):
+    """The groups with a line for each. Marks of four letters stand as letters."""
     for group in groups:
         mark = group[:4] if group[:4] in (b"HBBT", b"HBCK") else b""
-        lines.append(mark.decode() + "".join(spelled(byte) for byte in group[len(mark) :]))
-    return 'b"' + "\\\n".join(lines) + '"'
+        yield mark.decode() + "".join(spelled(byte) for byte in group[len(mark) :])
+
+
+def piece(name, about, groups):
+    """A piece of these groups behind its comment, and with its length in that."""
+    length = sum(len(group) for group in groups)
+    lines = "".join(f": {line}\\\n" for line in lines_of(groups))
+    return f"# {about}: {length} bytes.\n@ {name}\n{lines}"
 
 
 def constant(name, about, groups):
-    """A constant of these groups behind its comment, and with its length in that."""
+    """The same as a constant."""
     length = sum(len(group) for group in groups)
-    text = literal(groups)
+    text = 'b"' + "\\\n".join(lines_of(groups)) + '"'
     front = f"pub(super) const {name}: &[u8] ="
     # where the first line is too long, `rt fmt` wants the literal on a line of its own
     gap = " " if len(front) + 1 + text.index("\n") <= WIDTH else "\n    "
-    return f"/// {about.format(length=length)}\n{front}{gap}{text};\n"
+    return f"/// {about}: {length} bytes.\n{front}{gap}{text};\n"
 
 
 HEAD = """\
-//! Batches and checkpoints of two edges, from a to b and from b to c, in two partitions: a and c are of the first, and b
-//! of the second. Counters have 16 registers under seed 0. `bench/vectors.py` prints this file, from the definitions and
-//! the formats alone: nothing of it comes from the program.
-//!
-//! A batch has a line for what stands before the digest of the job, two for that, one for how many vertices changed and
-//! how many rows there are, and one for each row: its vertex and its registers.
+# Batches and checkpoints of two edges, from a to b and from b to c, in two partitions: a and c are of the first, and b of
+# the second; and checkpoints of the same edges in one partition. Counters have 16 registers under seed 0.
+# bench/vectors.py prints this file, from the definitions and the formats alone: nothing of it comes from the program.
+#
+# A batch has a line for what stands before the digest of the job, two for that, one for how many vertices changed and how
+# many rows there are, and one for each row: its vertex and its registers.
+#
+# A checkpoint has a line for what stands before the digest of the job, and two for that. Four follow for each vertex: its
+# mark, its estimate and harmonic centrality, its sum of distances, its registers. Then comes a line for the sum of the
+# estimates at each superstep, one for what is heard and whether a change is, one for the registers accumulated of each
+# vertex, one for the number of batches, and two for the SHA-256 of all that. In version 1 those behind the sums are
+# missing, but for the last two.
+"""
+
+TESTS_HEAD = """\
+//! Checkpoints of two edges, from a to b and from b to c, in two partitions: a and c are of the first, and b of the second.
+//! Counters have 16 registers under seed 0. `bench/vectors.py tests` prints this file, from the definitions and the formats
+//! alone: nothing of it comes from the program.
 //!
 //! A checkpoint has a line for what stands before the digest of the job, and two for that. Four follow for each vertex:
 //! its mark, its estimate and harmonic centrality, its sum of distances, its registers. Then comes a line for the sum of
 //! the estimates at each superstep, one for what is heard and whether a change is, one for the registers accumulated of
-//! each vertex, one for the number of batches, and two for the SHA-256 of all that. In version 1 those behind the sums
-//! are missing, but for the last two.
+//! each vertex, one for the number of batches, and two for the SHA-256 of all that.
 """
-
-BATCH_NAMES = ["FIRST_TELLS", "SECOND_TELLS"]
 
 
 def all_batches():
-    for source, name in enumerate(BATCH_NAMES):
+    for source, name in enumerate(["first-tells", "second-tells"]):
         for superstep in range(END + 1):
-            about = f"What partition {source} tells the other of superstep {superstep}: {{length}} bytes."
-            yield constant(f"{name}_{superstep}", about, batch(superstep, source, 1 - source))
+            about = f"What partition {source} tells the other of superstep {superstep}"
+            yield piece(f"{name}-{superstep}", about, batch(superstep, source, 1 - source))
 
 
 def all_checkpoints():
     for name, part, superstep, heard, about in [
-        ("FIRST_START", 0, 0, [], "Partition 0 at its start"),
-        ("SECOND_START", 1, 0, [], "Partition 1 at its start"),
-        ("SECOND_HEARD", 1, 0, [0], "Partition 1 at superstep 0, which has heard the other"),
-        ("FIRST_END", 0, END, [1], "Partition 0 at the end"),
-        ("SECOND_END", 1, END, [0], "Partition 1 at the end"),
+        ("first-start", 0, 0, [], "Partition 0 at its start"),
+        ("second-start", 1, 0, [], "Partition 1 at its start"),
+        ("second-heard", 1, 0, [0], "Partition 1 at superstep 0, which has heard the other"),
+        ("first-end", 0, END, [1], "Partition 0 at the end"),
+        ("second-end", 1, END, [0], "Partition 1 at the end"),
     ]:
-        yield constant(name, about + ": {length} bytes.", checkpoint(part, superstep, heard))
+        yield piece(name, about, checkpoint(part, superstep, heard))
 
 
 def old_checkpoints():
-    """Checkpoints of version 1: of both partitions, and of the same edges in one partition."""
-    global PARTS
-    for part, name in enumerate(["OLD_FIRST_END", "OLD_SECOND_END"]):
-        about = f"Partition {part} at the end, in version 1: {{length}} bytes."
-        yield constant(name, about, old_checkpoint(part, END))
-    before, PARTS = PARTS, 1
-    about = "The only partition at the end of the same edges in one partition, in version 1: {length} bytes."
-    yield constant("OLD_LONE_END", about, old_checkpoint(0, END))
-    PARTS = before
+    """Checkpoints of version 1."""
+    for part, name in enumerate(["old-first-end", "old-second-end"]):
+        yield piece(name, f"Partition {part} at the end, in version 1", old_checkpoint(part, END))
 
 
-def all_pieces():
-    """What the tests put together to batches and checkpoints of which one field is damaged."""
+def all_fields():
+    """What cases put together to batches and checkpoints of which one field is damaged."""
     digest = job_digest()
     other = bytes([digest[0] ^ 1]) + digest[1:]
     start = checkpoint(1, 0, [])
     least = b"".join(start)[:54]
-    yield constant("JOB", "The digest of the job: {length} bytes.", halves(digest))
-    yield constant("OTHER_JOB", "The same with one bit changed: {length} bytes.", halves(other))
-    yield constant(
-        "START_CUT",
-        "What `SECOND_START` begins with, one byte less than any checkpoint has: {length} bytes.",
-        [start[0], least[22:38], least[38:53]],
-    )
-    yield constant("START_REST", "What follows the first mark in `SECOND_START`: {length} bytes.", start[4:])
+    yield piece("job", "The digest of the job in two partitions", halves(digest))
+    yield piece("other-job", "The same with one bit changed", halves(other))
+    about = "What `second-start` begins with, one byte less than any checkpoint has"
+    yield piece("start-cut", about, [start[0], least[22:38], least[38:53]])
+    yield piece("start-rest", "What follows the first mark in `second-start`", start[4:])
 
 
-# The tests of crate `hyperball`.
-
-
-PROGRAM_HEAD = """\
-//! Batches and checkpoints of two edges, from a to b and from b to c, in two partitions, of which a and c are of the
-//! first, and b of the second; and checkpoints of the same edges in one partition. Counters have 16 registers under seed
-//! 0. `bench/vectors.py hyperball` prints this file, from the definitions and the formats alone: nothing of it comes from
-//! the program. It says what stands on each line.
-"""
-
-
-def program_vectors():
-    """What the tests of crate `hyperball` bring to nodes and gatherings, and want of them."""
+def lone_checkpoints():
+    """Checkpoints of the same edges in one partition."""
     global PARTS, COUNTED
-    yield from all_batches()
-    for name, part, superstep, heard, about in [
-        ("SECOND_START", 1, 0, [], "Partition 1 at its start"),
-        ("FIRST_END", 0, END, [1], "Partition 0 at the end"),
-        ("SECOND_END", 1, END, [0], "Partition 1 at the end"),
-    ]:
-        yield constant(name, about + ": {length} bytes.", checkpoint(part, superstep, heard))
-    digest = job_digest()
-    other = bytes([digest[0] ^ 1]) + digest[1:]
-    yield constant("JOB", "The digest of the job in two partitions: {length} bytes.", halves(digest))
-    yield constant("OTHER_JOB", "The same with one bit changed: {length} bytes.", halves(other))
+    before = PARTS, COUNTED
     PARTS = 1
-    for name, superstep, about in [
-        ("LONE_STEP", 1, "The only partition at superstep 1"),
-        ("LONE_END", END, "The only partition at the end"),
-    ]:
-        yield constant(name, about + ": {length} bytes.", checkpoint(0, superstep, []))
+    yield piece("lone-step", "The only partition at superstep 1", checkpoint(0, 1, []))
+    yield piece("lone-end", "The only partition at the end", checkpoint(0, END, []))
+    yield piece("old-lone-end", "The only partition at the end, in version 1", old_checkpoint(0, END))
     COUNTED = [0]
-    about = "The only partition at the end, where a alone is counted: {length} bytes."
-    yield constant("LISTED_END", about, checkpoint(0, END, []))
+    yield piece("listed-end", "The only partition at the end, where a alone is counted", checkpoint(0, END, []))
+    PARTS, COUNTED = before
+
+
+def all_constants():
+    """What tests of the crates `node` and `hyperball` bring to a gathering."""
+    yield constant("FIRST_END", "Partition 0 at the end", checkpoint(0, END, [1]))
+    yield constant("SECOND_END", "Partition 1 at the end", checkpoint(1, END, [0]))
 
 
 def main():
-    if sys.argv[1:] == ["hyperball"]:
-        print(PROGRAM_HEAD)
-        print("\n".join(program_vectors()), end="")
+    if sys.argv[1:] == ["tests"]:
+        print(TESTS_HEAD)
+        print("\n".join(all_constants()), end="")
         return
     print(HEAD)
-    print("\n".join([*all_batches(), *all_checkpoints(), *old_checkpoints(), *all_pieces()]), end="")
+    pieces = [*all_batches(), *all_checkpoints(), *old_checkpoints(), *all_fields(), *lone_checkpoints()]
+    print("\n".join(pieces), end="")
 
 
 if __name__ == "__main__":

@@ -1,7 +1,7 @@
 -- Where lines end.
-use Rattle.std.proofs.Common.{◌≡◌, ◌≢◌, ℕ, suc, List, [], ◌∷◌, ◌++◌, refl, arith}
+use Rattle.std.proofs.Common.{◌≡◌, ◌≢◌, ℕ, suc, false, List, [], ◌∷◌, ◌++◌, refl, arith}
 use Rattle.std.proofs.lemmas.Bool.{ne_eqb}
-use Rattle.ball_model.specs.Input.{lines}
+use Rattle.ball_model.specs.Input.{has_mark, lines, records}
 use Rattle.ball_model.specs.InputLaws.{IsBare}
 
 -- a byte that ends no line stands at the front of the first
@@ -35,3 +35,12 @@ end_ends [] bare = refl
 end_ends (c ∷ line) bare =
     let own = bare_head c line bare in
     bare_byte c line line [] own.0 own.1 (end_ends line (bare_tail c line bare))
+
+pub mark_line : (d : ℕ) (text : List ℕ) → records d (239 ∷ 187 ∷ 191 ∷ text) ≡ records d (10 ∷ text)
+unfolding lines
+mark_line d [] = refl
+mark_line d (x ∷ []) = refl
+mark_line d (x ∷ y ∷ text) = refl
+
+pub mark_none : (d : ℕ) (text : List ℕ) → has_mark text ≡ false → records d (239 ∷ 187 ∷ 191 ∷ text) ≡ records d text
+mark_none d text none = rw none refl

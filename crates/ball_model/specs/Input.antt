@@ -1,5 +1,5 @@
 -- What an edge list says: the graph and the labels that its records name, or its first refusal.
-use Rattle.std.specs.Prelude.{◌≡◌, ⊤, ℕ, ◌+◌, ◌-◌, Bool, true, false, List, [], ◌∷◌, ◌==◌, ◌&&◌, ◌^◌, not, if◌then◌else◌, map, length, take, min, nat_lt, nat_le, Option, None, Some, Result, Ok, Err, slice_index_or}
+use Rattle.std.specs.Prelude.{◌≡◌, ⊤, ℕ, ◌+◌, ◌-◌, Bool, true, false, List, [], ◌∷◌, ◌==◌, ◌&&◌, ◌^◌, not, if◌then◌else◌, map, length, take, drop, min, nat_lt, nat_le, Option, None, Some, Result, Ok, Err, slice_index_or}
 use Rattle.std.specs.List.{list_any, range_with_len, filter, flat_map}
 use Rattle.std.specs.Str.{bytes_eq}
 use Rattle.ball_model.specs.Graph.{Graph}
@@ -12,6 +12,10 @@ has_mark (a ∷ []) = false
 has_mark (a ∷ b ∷ []) = false
 has_mark (a ∷ b ∷ c ∷ rest) = (a == 239) && (b == 187) && (c == 191)
 
+-- a text without the byte order mark at its front, if it has one
+abbrev pub without_mark : List ℕ → List ℕ
+without_mark text = if has_mark text then drop 3 text else text
+
 abbrev pub StartsWithLf : List ℕ → Type 0
 StartsWithLf [] = ⊥
 StartsWithLf (c ∷ rest) = c ≡ 10
@@ -21,9 +25,8 @@ abbrev pub HasLfs : List ℕ → Type 0
 HasLfs [] = ⊤
 HasLfs (c ∷ rest) = (c ≡ 13 → StartsWithLf rest) × HasLfs rest
 
--- plain bytes: no byte order mark, and each CR has an LF after it
+-- plain bytes: each CR has an LF after it
 pub record IsPlain (text : List ℕ) : Type 0 where
-  pub unmarked : has_mark text ≡ false
   pub ends : HasLfs text
 
 -- a byte at the front of the first of some pieces
@@ -49,9 +52,9 @@ abbrev pub is_record : List ℕ → Bool
 is_record [] = false
 is_record (c ∷ rest) = not (35 == c)
 
--- the records of a text: the fields of each line that is neither empty nor a comment
+-- the records of a text: behind a byte order mark, the fields of each line that is neither empty nor a comment
 abbrev pub records : ℕ → List ℕ → List (List (List ℕ))
-records d text = map (fields d) (filter is_record (lines text))
+records d text = map (fields d) (filter is_record (lines (without_mark text)))
 
 abbrev pub is_filled : List ℕ → Bool
 is_filled [] = false

@@ -1,9 +1,9 @@
 -- What an input says, in the subject's own words: its lines, its sections, and which vertices are counted. Each is a
 -- clause of a function of src/laws.rt.
-use Rattle.std.specs.Prelude.{◌≡◌, ◌≢◌, ◌<◌, ◌≤◌, ◌↔◌, ◌⊎◌, ℕ, List, [], ◌∷◌, ◌++◌, IsTrue, Some, Ok, length, slice_index_or}
+use Rattle.std.specs.Prelude.{◌≡◌, ◌≢◌, ◌<◌, ◌≤◌, ◌↔◌, ◌⊎◌, ℕ, false, List, [], ◌∷◌, ◌++◌, IsTrue, Some, Ok, length, slice_index_or}
 use Rattle.std.specs.List.{All, range_with_len}
 use Rattle.ball_model.specs.Graph.{Graph, IsGraph, is_counted, counts_all}
-use Rattle.ball_model.specs.Input.{Limits, Network, lines, network_from}
+use Rattle.ball_model.specs.Input.{Limits, Network, has_mark, lines, network_from, records}
 use Rattle.ball_model.specs.Counting.{named_vertices, counted_network}
 use Rattle.ball_model.specs.Sections.{sections_of}
 
@@ -52,6 +52,16 @@ CrLfEndsLine = (line rest : List ℕ) → IsBare line →
 -- the end of the text ends the last line
 abbrev pub EndEndsLine : Type 0
 EndEndsLine = (line : List ℕ) → IsBare line → lines line ≡ line ∷ []
+
+-- a byte order mark at the front of a text is read as an empty line
+abbrev pub MarkIsEmptyLine : Type 0
+MarkIsEmptyLine = (d : ℕ) (text : List ℕ) →
+    records d (239 ∷ 187 ∷ 191 ∷ text) ≡ records d (10 ∷ text)
+
+-- so in front of a text that has none it changes nothing
+abbrev pub MarkChangesNothing : Type 0
+MarkChangesNothing = (d : ℕ) (text : List ℕ) → has_mark text ≡ false →
+    records d (239 ∷ 187 ∷ 191 ∷ text) ≡ records d text
 
 -- a line begins behind these bytes: at the start, or behind an LF
 abbrev pub LineBegins : List ℕ → Type 0

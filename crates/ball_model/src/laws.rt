@@ -12,7 +12,8 @@ ghost use Rattle.ball_model.specs.Laws.{PartIsStrided, JoinCommutes, JoinAssocia
 ghost use Rattle.ball_model.specs.Laws.{JoinIsUnion, UsualIsLarge};
 ghost use Rattle.ball_model.specs.InputLaws.{AllAreCounted, NamedAreCounted, AllNamedAreAll};
 ghost use Rattle.ball_model.specs.InputLaws.{LfEndsLine, CrLfEndsLine, EndEndsLine, MarkDivides};
-ghost use Rattle.ball_model.specs.InputLaws.{FirstMarkDivides, LimitsOnlyRefuse};
+ghost use Rattle.ball_model.specs.InputLaws.{FirstMarkDivides, LimitsOnlyRefuse, MarkIsEmptyLine};
+ghost use Rattle.ball_model.specs.InputLaws.{MarkChangesNothing};
 ghost use Rattle.ball_model.specs.AccumulatedLaws.{AccumulatorStarts, AccumulatorEnds};
 ghost use Rattle.ball_model.specs.AccumulatedLaws.{AccumulatorsJoin, AccumulatorSteps};
 
@@ -148,6 +149,13 @@ pub fn lines_end()
     ensures lf { LfEndsLine }
     ensures crlf { CrLfEndsLine }
     ensures end { EndEndsLine }
+{}
+
+/// A byte order mark at the front of a text is read as an empty line; in front of a text that has none it changes no
+/// record.
+pub fn mark_is_skipped()
+    ensures line { MarkIsEmptyLine }
+    ensures none { MarkChangesNothing }
 {}
 
 /// The sections of an input are what stands before and after its first line of exactly `%%`.

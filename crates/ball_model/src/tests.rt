@@ -571,6 +571,7 @@ fn laws_are_called() {
     laws::named_are_counted();
     laws::limits_only_refuse();
     laws::lines_end();
+    laws::mark_is_skipped();
     laws::first_mark_divides();
     history::standing_is_posted();
     history::nothing_goes_back();

@@ -14,7 +14,7 @@ use Rattle.ball_model.specs.History.{History, Begins, entries_of, calls_by}
 use Rattle.board.specs.Rule.{total, room_of, tickets_of, IsNotOf, FitsLog, IsKeptSafe, IsLocked, with_ticket, at_turn, after_turn, DrewTicket, LookedIfServed, LookedAtServing, WroteLength, RaisedServing}
 use Rattle.board.specs.Turn.{GoesOnBySeat}
 use Rattle.ball_model.proofs.HistoryLemmas.{begins_self, begins_trans}
-use Rattle.board.proofs.ViewLemmas.{total_set, total_le, each_set, apart_set, set_at}
+use Rattle.board.proofs.ViewLemmas.{total_set, total_le, each_set, apart_set, numbers_set, set_at}
 
 -- what a step tells does not ask which step it is
 abbrev pub still : Step (Option History)
@@ -95,6 +95,9 @@ draws slots id v idle live s h len at small =
               record { numbers = a.numbers; tickets = λ _ p q. let o = g.out p in omega arith; told = a.told },
               record { numbers = b.numbers; tickets = λ p _ q. let o = g.out p in omega arith; told = b.told },
             ));
+        numbers = h.numbers;
+        made = numbers_set h.numbers s.views id v w h.made at (λ p. (live, refl));
+        strangers = h.strangers;
       },
       (h.next, sym n, refl),
     )
@@ -150,6 +153,9 @@ looks slots id v waits s h len at small = go (slice_index s.words 2 == v.ticket 
       home = h.home;
       each = h.each;
       apart = h.apart;
+      numbers = h.numbers;
+      made = h.made;
+      strangers = h.strangers;
     }
 
     go : (b : Bool) → (slice_index s.words 2 == v.ticket % 2 ^ 64) ≡ b → LookOwes s id v b
@@ -193,6 +199,9 @@ looks slots id v waits s h len at small = go (slice_index s.words 2 == v.ticket 
                   record { numbers = a.numbers; tickets = λ _ p. a.tickets (omega arith) p; told = a.told },
                   record { numbers = b.numbers; tickets = λ p _. b.tickets p (omega arith); told = b.told },
                 ));
+            numbers = h.numbers;
+            made = numbers_set h.numbers s.views id v w h.made at (λ p. (o.0, refl));
+            strangers = h.strangers;
           },
           (h.log, (f.begins o.0, f.own o.0, h.legal, f.unused, (let l = f.limit_is o.0 in let m = h.fits in omega arith)), refl),
         )
@@ -275,6 +284,9 @@ writes slots id v book turn next s h len at small =
               record { numbers = a.numbers; tickets = λ _ p. a.tickets (omega arith) p; told = a.told },
               record { numbers = b.numbers; tickets = λ p _. b.tickets p (omega arith); told = b.told },
             ));
+        numbers = h.numbers;
+        made = numbers_set h.numbers s.views id v w h.made at (λ p. (o.0, refl));
+        strangers = λ k ne. others k (λ e. ne id (h.made.own id v at o.0 ∙ ap some (sym e))) ∙ h.strangers k ne;
       },
       λ log e. ap (λ (l : History). (at_turn v l, (0, Some book) ∷ [])) (carried_book e),
     )
@@ -336,6 +348,9 @@ raises slots id v turn s h len at small =
               record { numbers = a.numbers; tickets = λ p. absurd (omega arith); told = a.told },
               record { numbers = b.numbers; tickets = λ _ p. absurd (omega arith); told = b.told },
             ));
+        numbers = h.numbers;
+        made = numbers_set h.numbers s.views id v w h.made at (λ p. (o.0, refl));
+        strangers = h.strangers;
       },
       refl,
     )

@@ -13,7 +13,7 @@ use Rattle.ball_model.specs.History.{History, Begins, entries_of, events_by, cal
 use Rattle.board.specs.Rule.{room_of, tickets_of, IsNotOf, FitsLog, AreApart, IsKeptSafe, IsLocked, at_look, LookedAtLength, share, keeper, newcomer, with_news, first_view}
 use Rattle.board.specs.declared.seat.TheConstants.{SHARE}
 use Rattle.ball_model.proofs.HistoryLemmas.{begins_self, calls_by-none}
-use Rattle.board.proofs.ViewLemmas.{total_set, total_push, each_set, each_push, apart_set, apart_set_on, apart_push}
+use Rattle.board.proofs.ViewLemmas.{total_set, total_push, each_set, each_push, apart_set, apart_set_on, apart_push, numbers_push, numbers_set}
 use Rattle.board.proofs.MoveLemmas.{still, home_same}
 
 pub counts : (slots id : ℕ) (v : View) → v.stage ≡ 0 → 0 < v.room → Allows IsLocked slots id (v, []) 0 (λ n. n) (LookedAtLength still (v, []))
@@ -56,6 +56,9 @@ counts slots id v idle live s h len at small =
               record { numbers = a.numbers; tickets = λ p. absurd (omega arith); told = λ t q. absurd (none-some t q) },
               record { numbers = b.numbers; tickets = λ _ p. absurd (omega arith); told = b.told },
             ));
+        numbers = h.numbers;
+        made = numbers_set h.numbers s.views id v w h.made at (λ p. (live, refl));
+        strangers = h.strangers;
       },
       (h.log, (f.begins live, f.own live, h.legal, f.unused, (let l = f.limit_is live in let m = h.fits in omega arith)), sym (ap (λ (ws : List ℕ). slice_index ws 0) h.words), (λ t e. let g = f.told t e in (g.0, g.1)), refl),
     )
@@ -144,6 +147,9 @@ shares id v idle enough s h at =
             record { numbers = apart_part v n u (omega arith) (omega arith) a.numbers; tickets = λ p. absurd (omega arith); told = λ t q. absurd (none-some t q) },
             record { numbers = ⊎_swap (apart_part v n u (omega arith) (omega arith) a.numbers); tickets = λ _ p. absurd (omega arith); told = λ t q. part_of v n (omega arith) (omega arith) t.number (b.told t q) },
           )));
+      numbers = h.numbers ++ n.number ∷ [];
+      made = numbers_push h.numbers (set s.views id k) n (numbers_set h.numbers s.views id v k h.made at (λ p. (omega arith, refl)));
+      strangers = λ j ne. h.strangers j (λ i e. ne i (at_longer h.numbers (n.number ∷ []) i j e));
     }
 
 pub tells : (id : ℕ) (v : View) (other : ℕ) (w : View) → v.stage ≡ 0 → w.stage ≡ 0 → 0 < v.room → 0 < w.room → Joins IsLocked id v other w (with_news v w) spent_view
@@ -208,6 +214,9 @@ tells id v other w idle idle' live live' s h at ne at' =
             record { numbers = inl (omega arith); tickets = λ p. absurd (omega arith); told = λ t p. absurd (none-some t p) },
             record { numbers = inr (omega arith); tickets = λ _ p. absurd (omega arith); told = λ t p. inr (omega arith) },
           )) j k x y tt tt n e e';
+      numbers = h.numbers;
+      made = numbers_set h.numbers views other w spent_view (numbers_set h.numbers s.views id v u h.made at (λ p. (live, refl))) at' (λ p. absurd (omega arith));
+      strangers = h.strangers;
     }
 
 pub opens : (log : History) (limit : ℕ) → log.calls ≡ [] → IsLegal log → 1 ≤ limit → IsLocked (opening (1 ∷ 0 ∷ 0 ∷ []) (Some log ∷ []) (first_view log limit))
@@ -234,6 +243,9 @@ opens log limit first legal le =
         told = λ t e. absurd (none-some t e);
       };
       apart = λ i j v w ne e f. absurd (ne (zero_at i v e ∙ sym (zero_at j w f)));
+      numbers = 0 ∷ [];
+      made = record { one_each = refl; own = λ i v e live. start i v e };
+      strangers = λ k ne. ap (events_by k) first;
     }
   where
     only : (K : View → Type 0) → K (first_view log limit) → (i : ℕ) (v : View) → get_elem? (first_view log limit ∷ []) i ≡ some v → K v
@@ -243,3 +255,7 @@ opens log limit first legal le =
     zero_at : (i : ℕ) (v : View) → get_elem? (first_view log limit ∷ []) i ≡ some v → i ≡ 0
     zero_at zero v e = refl
     zero_at (suc i) v e = absurd (some-ne-none v (sym e))
+
+    start : (i : ℕ) (v : View) → get_elem? (first_view log limit ∷ []) i ≡ some v → get_elem? (0 ∷ []) i ≡ some v.number
+    start zero v e = ap (λ (u : View). some u.number) (some-injective (first_view log limit) v e)
+    start (suc i) v e = absurd (some-ne-none v (sym e))

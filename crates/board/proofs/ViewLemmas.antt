@@ -2,9 +2,10 @@
 use Rattle.std.proofs.Common.{◌≡◌, ◌≢◌, inl, inr, ◌⊎◌, ℕ, zero, suc, ◌+◌, ◌<◌, ◌≤◌, List, [], ◌∷◌, ◌++◌, length, set, refl, sym, ap, ◌∙◌, subst, ⊎_elim, arith}
 use mathlib.Core.Option.{some, some-injective, some-ne-none}
 use lib.ListN.{get_elem?}
-use Rattle.atomic_table.proofs.Lists.{at_set}
+use Rattle.std.proofs.lemmas.List.{length-append, length-set}
+use Rattle.atomic_table.proofs.Lists.{at_last, at_longer, at_set}
 use Rattle.board.specs.View.{View}
-use Rattle.board.specs.Rule.{total, AreApart}
+use Rattle.board.specs.Rule.{total, AreApart, AreNumbersOf}
 
 pub total_set : (f : View → ℕ) (views : List View) (i : ℕ) (v w : View) → get_elem? views i ≡ some v → total f (set views i w) + f v ≡ total f views + f w
 total_set f [] i v w e = absurd (some-ne-none v (sym e))
@@ -76,3 +77,29 @@ apart_push views w old new j k u x ne e f =
     (λ (b : (w ≡ x) × (k ≡ length views)). absurd (ne (a.1 ∙ sym b.1)))
     (at_push views w x k f))
     (at_push views w u j e)
+
+-- ---- the numbers of all seats
+pub numbers_set : (numbers : List ℕ) (views : List View) (i : ℕ) (v w : View) → AreNumbersOf numbers views → get_elem? views i ≡ some v → (0 < w.room → (0 < v.room) × (v.number ≡ w.number)) → AreNumbersOf numbers (set views i w)
+numbers_set numbers views i v w h at same = record {
+  one_each = h.one_each ∙ sym (length-set views i w);
+  own = λ j u e live.
+      ⊎_elim
+      (λ (x : (j ≡ i) × (w ≡ u)).
+      let p = same (subst (λ (z : View). 0 < z.room) (sym x.1) live) in
+      ap (get_elem? numbers) x.0 ∙ (h.own i v at p.0 ∙ ap some (p.1 ∙ ap (λ (z : View). z.number) x.1)))
+      (λ (x : (j ≢ i) × (get_elem? views j ≡ some u)). h.own j u x.1 live)
+      (at_set views i j w u e);
+}
+
+pub numbers_push : (numbers : List ℕ) (views : List View) (w : View) → AreNumbersOf numbers views → AreNumbersOf (numbers ++ w.number ∷ []) (views ++ w ∷ [])
+numbers_push numbers views w h =
+    let more : length (numbers ++ w.number ∷ []) ≡ length numbers + 1 = length-append numbers (w.number ∷ []) in
+    let many : length (views ++ w ∷ []) ≡ length views + 1 = length-append views (w ∷ []) in
+    record {
+      one_each = more ∙ (ap (λ (n : ℕ). n + 1) h.one_each ∙ sym many);
+      own = λ j u e live.
+          ⊎_elim
+          (λ (x : (get_elem? views j ≡ some u) × (j < length views)). at_longer numbers (w.number ∷ []) j u.number (h.own j u x.0 live))
+          (λ (x : (w ≡ u) × (j ≡ length views)). at_last numbers w.number j (h.one_each ∙ sym x.1) ∙ ap (λ (z : View). some z.number) x.0)
+          (at_push views w u j e);
+    }

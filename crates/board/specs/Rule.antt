@@ -1,5 +1,5 @@
 -- The rule of the table, and what each step tells.
-use Rattle.std.specs.Prelude.{◌≡◌, ◌≢◌, ◌⊎◌, ℕ, ◌+◌, ◌-◌, ◌/◌, ◌%◌, ◌^◌, ◌<◌, ◌≤◌, ◌==◌, min, Bool, true, false, List, [], ◌∷◌, Option, Some, None}
+use Rattle.std.specs.Prelude.{◌≡◌, ◌≢◌, ◌⊎◌, ℕ, ◌+◌, ◌-◌, ◌/◌, ◌%◌, ◌^◌, ◌<◌, ◌≤◌, ◌==◌, min, Bool, true, false, List, [], ◌∷◌, length, Option, Some, None}
 use mathlib.Core.Option.{some, none}
 use lib.ListN.{get_elem?}
 use Rattle.atomic_table.specs.Table.{State, Me, Step}
@@ -60,8 +60,15 @@ IsKeptSafe log s =
     ⊎ ((s.homes ≡ none ∷ [])
     × ((i : ℕ) × (v : View) × (get_elem? s.views i ≡ some v) × (v.stage ≡ 2)))
 
+-- a number for each seat that was ever made, in the order of their making: that of a seat which has not ended is its own
+pub record AreNumbersOf (numbers : List ℕ) (views : List View) : Type 0 where
+  pub one_each : length numbers ≡ length views
+  pub own : (i : ℕ) (v : View) → get_elem? views i ≡ some v → 0 < v.room →
+      get_elem? numbers i ≡ some v.number
+
 -- the rule: there is one legal history, whose length is word 0; words 1 and 2 are the next ticket and the one that is
--- served, modulo 2^64, and the tickets between them are out; each seat knows what fits, and each two are apart
+-- served, modulo 2^64, and the tickets between them are out; each seat knows what fits, and each two are apart; and a
+-- number that is none of a seat's has no entry
 pub record IsLocked (s : State (Option History) View) : Type 0 where
   pub log : History
   pub next : ℕ
@@ -76,6 +83,9 @@ pub record IsLocked (s : State (Option History) View) : Type 0 where
   pub each : (i : ℕ) (v : View) → get_elem? s.views i ≡ some v → FitsLog limit log next serving v
   pub apart : (i j : ℕ) (v w : View) → i ≢ j → get_elem? s.views i ≡ some v →
       get_elem? s.views j ≡ some w → AreApart v w
+  pub numbers : List ℕ
+  pub made : AreNumbersOf numbers s.views
+  pub strangers : (k : ℕ) → ((i : ℕ) → get_elem? numbers i ≢ some k) → calls_by k log ≡ []
 
 abbrev pub SeatHas : Type 0
 SeatHas = Me (Option History) View

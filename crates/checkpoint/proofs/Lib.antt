@@ -1,3 +1,4 @@
+pub mod DigestLemmas
 pub mod WriteLemmas
 pub mod SpoolLemmas
 pub mod TextLemmas

@@ -1,6 +1,6 @@
 -- Bytes that are read part by part.
-use Rattle.std.proofs.Common.{◌≡◌, ℕ, zero, suc, ◌+◌, ◌-◌, ◌*◌, ◌<◌, ◌≤◌, List, [], ◌++◌, length, take, Result, Ok, Err, refl, ap, sym, ◌∙◌, subst, arith, append_assoc, append-nil, inl, inr}
-use Rattle.std.specs.Prelude.{◌==◌, ◌&&◌, ◌/◌, ◌%◌, ◌^◌, Bool, true, false, not, ⊤, Option, Some, None}
+use Rattle.std.proofs.Common.{◌≡◌, ℕ, suc, ◌+◌, ◌-◌, ◌*◌, ◌<◌, ◌≤◌, List, [], ◌++◌, length, take, Result, Ok, Err, refl, ap, sym, ◌∙◌, subst, arith, append_assoc, append-nil, inl, inr}
+use Rattle.std.specs.Prelude.{◌≢◌, ◌==◌, ◌&&◌, ◌/◌, ◌%◌, ◌^◌, Bool, true, false, not, ⊤, Option, Some, None}
 use Rattle.std.specs.Int.{w16, w64, from_be_bytes}
 use Rattle.std.specs.Io.KnownBytes.{Consumes, IsAtEnd}
 use Rattle.std.proofs.KnownBytes.{Consumes-nil, Consumes-trans}
@@ -26,7 +26,10 @@ use Rattle.checkpoint.specs.declared.sizes.TheConstants.{DIGEST_LEN, HEADER_LEN}
 use Rattle.checkpoint.specs.declared.error.KeepError.{KeepError}
 use Rattle.checkpoint.specs.declared.error.KeepError.TheVariants as errors
 use Rattle.ball_model.specs.Checks.{◌>>=◌}
-use Rattle.checkpoint.specs.Reading.{Form, needs, followed, is_batch_length, greatest_batch, told_batch, batch_form, batches_form, told_batches, early_form, fixed_length, most_after, most_checkpoint_body, most_early, allowed, allowed_content, TakesWithin, held_form, content_form, sealed_form, told_body, body_form, check_checkpoint_head, checkpoint_head_at, seal_form, TakesBytes, Grows, Fails, Passes, PassesSoFar, IsRead, IsOfBytes, IsOfBody, HasHead, OnOkOrMemory}
+use Rattle.checkpoint.specs.Texts.{Adds, IsFresh}
+use Rattle.checkpoint.specs.declared.text.Text.{Text}
+use Rattle.checkpoint.proofs.DigestLemmas.{hashes_none, hashes_then}
+use Rattle.checkpoint.specs.Reading.{Form, needs, followed, is_batch_length, greatest_batch, told_batch, batch_form, batches_form, told_batches, early_form, fixed_length, most_after, most_checkpoint_body, most_early, allowed, allowed_content, TakesWithin, held_form, content_form, sealed_form, told_body, body_form, check_checkpoint_head, checkpoint_head_at, seal_form, TakesBytes, Grows, GrowsByContent, GrowsByHead, Fails, IsRead, IsOfBytes, IsOfBody, HasHead, OnOkOrMemory}
 
 -- ---- calls that are sure
 pub after_then : (n m : ℕ) (a b c : Option ℕ) → AfterAtMost n a b → AfterAtMost m b c → AfterAtMost (n + m) a c
@@ -86,7 +89,7 @@ pub followed-err : (first : Form) (second : List ℕ → Form) (bytes : List ℕ
 unfolding followed
 followed-err first second bytes e is = rw is refl
 
--- ---- bytes of which no check fails
+-- ---- no want of memory
 abbrev is_memory : KeepError → Type 0
 is_memory errors.Memory = ⊤
 is_memory e = ⊥
@@ -94,50 +97,6 @@ is_memory e = ⊥
 -- another refusal is no want of memory
 pub not_wanting : {P : Type 0} (e : KeepError) → (is_memory e → ⊥) → e ≡ errors.Memory → P
 not_wanting e other is = absurd (other (subst is_memory (sym is) tt))
-
--- a form that passes has no refusal but that the bytes are too few
-pub passes-as : (form other : Form) (bytes : List ℕ) → other bytes ≡ form bytes → Passes form bytes → Passes other bytes
-passes-as form other bytes same p = elim p [
-  | inl fine ↦ inl (same ∙ fine)
-  | inr short ↦ inr (same ∙ short)
-]
-
--- after a piece that is of the first form
-pub passes-then : (first : Form) (second : List ℕ → Form) (piece rest : List ℕ) → first (piece ++ rest) ≡ Ok (length piece) → Passes (second piece) rest
-    → Passes (followed first second) (piece ++ rest)
-passes-then first second piece rest is p =
-    let at = followed-at first second piece rest is in
-    elim p [
-      | inl fine ↦ inl (at ∙ ap (λ (r : Result ℕ KeepError). r >>= λ k. Ok (length piece + k)) fine ∙ ap Ok (sym (length-append piece rest)))
-      | inr short ↦ inr (at ∙ ap (λ (r : Result ℕ KeepError). r >>= λ k. Ok (length piece + k)) short)
-    ]
-
--- within the first form, or where it ends
-pub passes-first : (first : Form) (second : List ℕ → Form) (bytes : List ℕ) → (first bytes ≡ Ok (length bytes) → Passes (second bytes) []) → Passes first bytes
-    → Passes (followed first second) bytes
-passes-first first second bytes next p = elim p [
-  | inl fine ↦ subst (Passes (followed first second)) (append-nil bytes)
-      (passes-then first second bytes [] (ap first (append-nil bytes) ∙ fine) (next fine))
-  | inr short ↦ inr (followed-err first second bytes errors.Short short)
-]
-
-pub passes-needs : (n : ℕ) (bytes : List ℕ) → length bytes ≤ n → Passes (needs n) bytes
-passes-needs n bytes le = elim (cases_lt (length bytes) n) [
-  | inl lt ↦ inr (needs-err n bytes lt)
-  | inr ge ↦ let e : n ≡ length bytes = omega (arith, ge, le) in inl (needs-ok n bytes ge ∙ ap Ok e)
-]
-
--- what passes so many bytes is not longer
-pub needs-within : (n : ℕ) (bytes : List ℕ) → Passes (needs n) bytes → length bytes ≤ n
-needs-within n bytes p = elim p [
-  | inl fine ↦ omega (arith, needs-takes n (length bytes) bytes fine)
-  | inr short ↦ omega (arith, (needs-refuses n errors.Short bytes short).0)
-]
-
-pub passes-batches : (plan : PlanValue) (n : ℕ) → Passes (batches_form plan n) []
-unfolding batches_form
-passes-batches plan zero = inl refl
-passes-batches plan (suc n) = inr (followed-err (batch_form plan) (λ _. batches_form plan n) [] errors.Short (followed-err (needs 8) (told_batch plan) [] errors.Short (needs-err 8 [] (omega arith))))
 
 -- ---- what is read
 pub takes_then : {R : Type 0} {remaining : R → Option (List ℕ)} {failed : R → ℕ} {sure : R → Option ℕ} (a b c : R) (xs ys : List ℕ)
@@ -162,22 +121,12 @@ left None new piece bytes p e = absurd (subst HasNone e tt)
 left (Some xs) None piece bytes p e = absurd p
 left (Some xs) (Some ys) piece bytes p e = record { rest = ys; is = refl; split = sym (ap bytes_of e) ∙ p }
 
-pub grows_as : {R : Type 0} {remaining : R → Option (List ℕ)} {failed : R → ℕ} {sure : R → Option ℕ} {form : Form} {most : ℕ} {a b : R} {t u : List ℕ} (other : Form) (more : ℕ)
+pub grows_as : {R : Type 0} {remaining : R → Option (List ℕ)} {failed : R → ℕ} {sure : R → Option ℕ} {form : Form} {most : ℕ} {a b : R} {t u : Text} (other : Form) (more : ℕ)
     → ((bytes : List ℕ) → other bytes ≡ form bytes) → most ≤ more → Grows remaining failed sure form most a b t u → Grows remaining failed sure other more a b t u
 grows_as other more same le p = record { piece = p.piece; grown = p.grown; takes = p.takes; is_form = λ rest. same (p.piece ++ rest) ∙ p.is_form rest; few = omega (arith, p.few, le) }
 
 pub few_more : (n m : ℕ) (old new : Option (List ℕ)) → TakesAtMost n old new → n ≤ m → TakesAtMost m old new
 few_more n m old new p le = record { bytes = p.bytes; consumed = p.consumed; few = omega (arith, p.few, le) }
-
--- a piece, and then more of which no check fails
-pub so_far_then : {R : Type 0} {remaining : R → Option (List ℕ)} {failed : R → ℕ} {sure : R → Option ℕ} {a b c : R} {piece : List ℕ} {form : Form} (whole : Form)
-    → TakesBytes remaining failed sure a b piece → ((rest : List ℕ) → Passes form rest → Passes whole (piece ++ rest))
-    → PassesSoFar form (remaining b) (remaining c) → PassesSoFar whole (remaining a) (remaining c)
-so_far_then {remaining} {a} {b} {c} {piece} whole p fine q = record {
-  bytes = piece ++ q.bytes;
-  consumed = Consumes-trans (remaining a) (remaining b) (remaining c) piece q.bytes p.consumed q.consumed;
-  passes = fine q.bytes q.passes;
-}
 
 pub fails_as : {R : Type 0} {remaining : R → Option (List ℕ)} {failed : R → ℕ} {sure : R → Option ℕ} {form : Form} {most : ℕ} {a b : R} {e : KeepError} (other : Form) (more : ℕ)
     → ((bytes : List ℕ) → other bytes ≡ form bytes) → most ≤ more → Fails remaining failed sure form most a b e → Fails remaining failed sure other more a b e
@@ -186,70 +135,85 @@ fails_as {remaining} {sure} {form} {most} {a} {b} other more same le p = record 
   rises = p.rises;
   counted = p.counted;
   unsure = λ is. p.unsure (sure_fewer most more (sure a) is le);
-  wanting = λ is. let q = p.wanting is in record { bytes = q.bytes; consumed = q.consumed; passes = passes-as form other q.bytes (same q.bytes) q.passes };
+  wanting = p.wanting;
   due = λ bytes known of. same bytes ∙ p.due bytes known of;
 }
 
 -- where the first form is not there, the whole is not
 pub fails_first : {R : Type 0} {remaining : R → Option (List ℕ)} {failed : R → ℕ} {sure : R → Option ℕ} {form : Form} {most : ℕ} {a b : R} {e : KeepError} (second : List ℕ → Form) (more : ℕ)
-    → most ≤ more → (e ≡ errors.Memory → (bytes : List ℕ) → form bytes ≡ Ok (length bytes) → Passes (second bytes) [])
-    → Fails remaining failed sure form most a b e → Fails remaining failed sure (followed form second) more a b e
-fails_first {remaining} {sure} {form} {most} {a} {b} {e} second more le next p = record {
+    → most ≤ more → Fails remaining failed sure form most a b e → Fails remaining failed sure (followed form second) more a b e
+fails_first {remaining} {sure} {form} {most} {a} {b} {e} second more le p = record {
   few = few_more most more (remaining a) (remaining b) p.few le;
   rises = p.rises;
   counted = p.counted;
   unsure = λ is. p.unsure (sure_fewer most more (sure a) is le);
-  wanting = λ is. let q = p.wanting is in record { bytes = q.bytes; consumed = q.consumed; passes = passes-first form second q.bytes (next is q.bytes) q.passes };
+  wanting = p.wanting;
   due = λ bytes known of. followed-err form second bytes e (p.due bytes known of);
 }
 
 -- a piece is read, and then the rest is not, for whatever form of the whole has this refusal then
 pub fails_then : {R : Type 0} {remaining : R → Option (List ℕ)} {failed : R → ℕ} {sure : R → Option ℕ} {a b c : R} {piece : List ℕ} {form : Form} {most : ℕ} {e : KeepError} (whole : Form) (n more : ℕ)
     → TakesBytes remaining failed sure a b piece → length piece ≤ n → n + most ≤ more → ((rest : List ℕ) → form rest ≡ Err e → whole (piece ++ rest) ≡ Err e)
-    → (e ≡ errors.Memory → (rest : List ℕ) → Passes form rest → Passes whole (piece ++ rest))
     → Fails remaining failed sure form most b c e → Fails remaining failed sure whole more a c e
-fails_then {remaining} {failed} {sure} {a} {b} {c} {piece} {form} {most} {e} whole n more p short le same fine q = record {
+fails_then {remaining} {failed} {sure} {a} {b} {c} {piece} {form} {most} {e} whole n more p short le same q = record {
   few = record { bytes = piece ++ q.few.bytes; consumed = Consumes-trans (remaining a) (remaining b) (remaining c) piece q.few.bytes p.consumed q.few.consumed; few = omega (arith, length-append piece q.few.bytes, q.few.few, short, le) };
   rises = λ is. subst (λ k. Rises k (failed c)) p.counted (q.rises is);
   counted = λ is. q.counted is ∙ p.counted;
   unsure = λ is. q.unsure (sure_rest (length piece) most (sure a) (sure b) (sure_fewer (length piece + most) more (sure a) is (omega (arith, short, le))) p.calls);
-  wanting = λ is. so_far_then whole p (fine is) (q.wanting is);
+  wanting = q.wanting;
   due = λ bytes known of.
       let l = left (remaining a) (remaining b) piece bytes p.consumed known in
       rw l.split (same l.rest (q.due l.rest l.is of));
 }
 
-pub fails_second : {R : Type 0} {remaining : R → Option (List ℕ)} {failed : R → ℕ} {sure : R → Option ℕ} {a b c : R} {form : Form} {n most : ℕ} {t u : List ℕ} {e : KeepError} (second : List ℕ → Form) (more : ℕ)
+pub fails_second : {R : Type 0} {remaining : R → Option (List ℕ)} {failed : R → ℕ} {sure : R → Option ℕ} {a b c : R} {form : Form} {n most : ℕ} {t u : Text} {e : KeepError} (second : List ℕ → Form) (more : ℕ)
     → (p : Grows remaining failed sure form n a b t u) → n + most ≤ more → Fails remaining failed sure (second p.piece) most b c e → Fails remaining failed sure (followed form second) more a c e
 fails_second {form} {n} {e} second more p le q =
-    fails_then (followed form second) n more p.takes p.few le (λ rest is. followed-at form second p.piece rest (p.is_form rest) ∙ ap (λ (r : Result ℕ KeepError). r >>= λ k. Ok (length p.piece + k)) is)
-    (λ _ rest. passes-then form second p.piece rest (p.is_form rest)) q
+    fails_then (followed form second) n more p.takes p.few le (λ rest is. followed-at form second p.piece rest (p.is_form rest) ∙ ap (λ (r : Result ℕ KeepError). r >>= λ k. Ok (length p.piece + k)) is) q
 
 -- nothing more is read, and what stands there is refused
 pub fails_here : {R : Type 0} (remaining : R → Option (List ℕ)) (failed : R → ℕ) (sure : R → Option ℕ) (a : R) (form : Form) (most : ℕ) (e : KeepError)
-    → (IsRead e → ⊥) → (e ≡ errors.Memory → Passes form []) → ((bytes : List ℕ) → IsOfBytes e → form bytes ≡ Err e) → Fails remaining failed sure form most a a e
-fails_here remaining failed sure a form most e other passes refused = record {
+    → (IsRead e → ⊥) → e ≢ errors.Memory → ((bytes : List ℕ) → IsOfBytes e → form bytes ≡ Err e) → Fails remaining failed sure form most a a e
+fails_here remaining failed sure a form most e other some refused = record {
   few = record { bytes = []; consumed = Consumes-nil (remaining a); few = omega arith };
   rises = λ is. absurd (other is);
   counted = λ _. refl;
   unsure = λ _ is. other is;
-  wanting = λ is. record { bytes = []; consumed = Consumes-nil (remaining a); passes = passes is };
+  wanting = some;
   due = λ bytes known of. refused bytes of;
 }
 
+-- nothing follows a text
+adds_none : (t : Text) → Adds t t []
+adds_none t = record { digested = hashes_none t.hasher; kept = λ is. (is, sym (append-nil t.bytes.items)) }
+
+-- a piece follows, and then another
+adds_then : {t u v : Text} (one two : List ℕ) → Adds t u one → Adds u v two → Adds t v (one ++ two)
+adds_then {t} {u} {v} one two p q = record {
+  digested = hashes_then t.hasher u.hasher v.hasher one two p.digested q.digested;
+  kept = λ is.
+      let last = q.kept is in
+      let first = p.kept last.0 in
+      (first.0, last.1 ∙ ap (λ (l : List ℕ). l ++ two) first.1 ∙ append_assoc t.bytes.items one two);
+}
+
+-- what stands there is all that was read
+pub text_kept : {t u : Text} {piece : List ℕ} → Adds t u piece → IsFresh t → u.whole ≡ true → u.bytes.items ≡ piece
+text_kept {piece} p fresh is = (p.kept is).1 ∙ ap (λ (l : List ℕ). l ++ piece) fresh.bytes
+
 -- a piece of so many bytes stands behind a text
-abbrev pub piece_grows : {R : Type 0} {remaining : R → Option (List ℕ)} {failed : R → ℕ} {sure : R → Option ℕ} {a b : R} {piece t u : List ℕ} (n : ℕ)
-    → TakesBytes remaining failed sure a b piece → length piece ≡ n → u ≡ t ++ piece → Grows remaining failed sure (needs n) n a b t u
+abbrev pub piece_grows : {R : Type 0} {remaining : R → Option (List ℕ)} {failed : R → ℕ} {sure : R → Option ℕ} {a b : R} {piece : List ℕ} {t u : Text} (n : ℕ)
+    → TakesBytes remaining failed sure a b piece → length piece ≡ n → Adds t u piece → Grows remaining failed sure (needs n) n a b t u
 piece_grows {piece} n p len grown = record { piece = piece; grown = grown; takes = p; is_form = λ rest. needs-piece n piece rest len; few = omega (arith, len) }
 
-pub grows_then : {R : Type 0} {remaining : R → Option (List ℕ)} {failed : R → ℕ} {sure : R → Option ℕ} {a b c : R} {form : Form} {n most : ℕ} {t u v : List ℕ} (second : List ℕ → Form) (more : ℕ)
+pub grows_then : {R : Type 0} {remaining : R → Option (List ℕ)} {failed : R → ℕ} {sure : R → Option ℕ} {a b c : R} {form : Form} {n most : ℕ} {t u v : Text} (second : List ℕ → Form) (more : ℕ)
     → (p : Grows remaining failed sure form n a b t u) → n + most ≤ more → Grows remaining failed sure (second p.piece) most b c u v → Grows remaining failed sure (followed form second) more a c t v
-grows_then {a} {b} {c} {form} {n} {t} second more p le q =
+grows_then {a} {b} {c} {form} {n} second more p le q =
     let one = p.piece in
     let two = q.piece in
     record {
       piece = one ++ two;
-      grown = q.grown ∙ ap (λ (l : List ℕ). l ++ two) p.grown ∙ append_assoc t one two;
+      grown = adds_then one two p.grown q.grown;
       takes = takes_then a b c one two p.takes q.takes;
       is_form = λ rest. ap (followed form second) (append_assoc one two rest) ∙ followed-at form second one (two ++ rest) (p.is_form (two ++ rest))
           ∙ ap (λ (r : Result ℕ KeepError). r >>= λ k. Ok (length one + k)) (q.is_form rest) ∙ ap Ok (sym (length-append one two));
@@ -264,27 +228,28 @@ fails_full {remaining} {failed} {sure} {a} {b} {e} n m is p = subst (λ (k : ℕ
 -- a piece of so many bytes, and what follows it
 pub fails_after : {R : Type 0} {remaining : R → Option (List ℕ)} {failed : R → ℕ} {sure : R → Option ℕ} {a b c : R} {piece : List ℕ} {most : ℕ} {e : KeepError} (n : ℕ) (second : List ℕ → Form) (more : ℕ)
     → TakesBytes remaining failed sure a b piece → length piece ≡ n → n + most ≤ more → Fails remaining failed sure (second piece) most b c e → Fails remaining failed sure (followed (needs n) second) more a c e
-fails_after n second more p len le q = fails_second second more (piece_grows {t = []} n p len refl) le q
+fails_after {piece} n second more p len le q =
+    fails_then (followed (needs n) second) n more p (omega (arith, len)) le (λ rest is. followed-at (needs n) second piece rest (needs-piece n piece rest len) ∙ ap (λ (r : Result ℕ KeepError). r >>= λ k. Ok (length piece + k)) is) q
 
-pub grows_after : {R : Type 0} {remaining : R → Option (List ℕ)} {failed : R → ℕ} {sure : R → Option ℕ} {a b c : R} {piece t u v : List ℕ} {most : ℕ} (n : ℕ) (second : List ℕ → Form) (more : ℕ)
-    → TakesBytes remaining failed sure a b piece → length piece ≡ n → u ≡ t ++ piece → n + most ≤ more → Grows remaining failed sure (second piece) most b c u v → Grows remaining failed sure (followed (needs n) second) more a c t v
+pub grows_after : {R : Type 0} {remaining : R → Option (List ℕ)} {failed : R → ℕ} {sure : R → Option ℕ} {a b c : R} {piece : List ℕ} {t u v : Text} {most : ℕ} (n : ℕ) (second : List ℕ → Form) (more : ℕ)
+    → TakesBytes remaining failed sure a b piece → length piece ≡ n → Adds t u piece → n + most ≤ more → Grows remaining failed sure (second piece) most b c u v → Grows remaining failed sure (followed (needs n) second) more a c t v
 grows_after n second more p len grown le q = grows_then second more (piece_grows n p len grown) le q
 
 -- nothing is read
-pub grows_none : {R : Type 0} (remaining : R → Option (List ℕ)) (failed : R → ℕ) (sure : R → Option ℕ) (a : R) (t : List ℕ) (form : Form) (most : ℕ)
+pub grows_none : {R : Type 0} (remaining : R → Option (List ℕ)) (failed : R → ℕ) (sure : R → Option ℕ) (a : R) (t : Text) (form : Form) (most : ℕ)
     → ((rest : List ℕ) → form rest ≡ Ok 0) → Grows remaining failed sure form most a a t t
 grows_none remaining failed sure a t form most is = record {
   piece = [];
-  grown = sym (append-nil t);
+  grown = adds_none t;
   takes = record { consumed = Consumes-nil (remaining a); counted = refl; calls = after_none (sure a) };
   is_form = is;
   few = omega arith;
 }
 
 -- ---- so many bytes, in pieces
-pub needs_then : {R : Type 0} {remaining : R → Option (List ℕ)} {failed : R → ℕ} {sure : R → Option ℕ} {a b c : R} {n m : ℕ} {t u v : List ℕ} (k : ℕ)
+pub needs_then : {R : Type 0} {remaining : R → Option (List ℕ)} {failed : R → ℕ} {sure : R → Option ℕ} {a b c : R} {n m : ℕ} {t u v : Text} (k : ℕ)
     → k ≡ n + m → Grows remaining failed sure (needs n) n a b t u → Grows remaining failed sure (needs m) m b c u v → Grows remaining failed sure (needs k) k a c t v
-needs_then {a} {b} {c} {n} {m} {t} k sum p q =
+needs_then {a} {b} {c} {n} {m} k sum p q =
     let one = p.piece in
     let two = q.piece in
     let len = length-append one two in
@@ -292,25 +257,24 @@ needs_then {a} {b} {c} {n} {m} {t} k sum p q =
     let e2 = needs-takes m (length two) (two ++ []) (q.is_form []) in
     record {
       piece = one ++ two;
-      grown = q.grown ∙ ap (λ (l : List ℕ). l ++ two) p.grown ∙ append_assoc t one two;
+      grown = adds_then one two p.grown q.grown;
       takes = takes_then a b c one two p.takes q.takes;
       is_form = λ rest. needs-piece k (one ++ two) rest (omega (arith, len, e1, e2, sum));
       few = omega (arith, len, e1, e2, sum);
     }
 
-pub needs_fails : {R : Type 0} {remaining : R → Option (List ℕ)} {failed : R → ℕ} {sure : R → Option ℕ} {a b c : R} {n m : ℕ} {t u : List ℕ} {e : KeepError} (k : ℕ)
+pub needs_fails : {R : Type 0} {remaining : R → Option (List ℕ)} {failed : R → ℕ} {sure : R → Option ℕ} {a b c : R} {n m : ℕ} {t u : Text} {e : KeepError} (k : ℕ)
     → n + m ≤ k → Grows remaining failed sure (needs n) n a b t u → Fails remaining failed sure (needs m) m b c e → Fails remaining failed sure (needs k) k a c e
 needs_fails {n} {m} {e} k le p q =
     let one = p.piece in
     let e1 = needs-takes n (length one) (one ++ []) (p.is_form []) in
-    fails_then (needs k) n k p.takes p.few le (λ rest is. let r = needs-refuses m e rest is in needs-err k (one ++ rest) (omega (arith, length-append one rest, e1, r.0, le)) ∙ r.1)
-    (λ _ rest fine. passes-needs k (one ++ rest) (omega (arith, length-append one rest, e1, needs-within m rest fine, le))) q
+    fails_then (needs k) n k p.takes p.few le (λ rest is. let r = needs-refuses m e rest is in needs-err k (one ++ rest) (omega (arith, length-append one rest, e1, r.0, le)) ∙ r.1) q
 
 -- ---- batches
 -- so many of all batches were read
-pub record Walks {R : Type 0} (remaining : R → Option (List ℕ)) (failed : R → ℕ) (sure : R → Option ℕ) (plan : PlanValue) (count i each : ℕ) (a b : R) (t u : List ℕ) : Type 0 where
+pub record Walks {R : Type 0} (remaining : R → Option (List ℕ)) (failed : R → ℕ) (sure : R → Option ℕ) (plan : PlanValue) (count i each : ℕ) (a b : R) (t u : Text) : Type 0 where
   pub piece : List ℕ
-  pub grown : u ≡ t ++ piece
+  pub grown : Adds t u piece
   pub takes : TakesBytes remaining failed sure a b piece
   pub walk : (rest : List ℕ) → batches_form plan count (piece ++ rest) ≡ (batches_form plan (count - i) rest >>= λ k. Ok (length piece + k))
   pub few : length piece ≤ i * each
@@ -323,11 +287,11 @@ plus_twice : (n m : ℕ) (r : Result ℕ KeepError) → ((r >>= λ k. Ok (m + k)
 plus_twice n m (Ok x) = ap Ok (omega arith)
 plus_twice n m (Err e) = refl
 
-pub walks_none : {R : Type 0} (remaining : R → Option (List ℕ)) (failed : R → ℕ) (sure : R → Option ℕ) (plan : PlanValue) (count each : ℕ) (a : R) (t : List ℕ)
+pub walks_none : {R : Type 0} (remaining : R → Option (List ℕ)) (failed : R → ℕ) (sure : R → Option ℕ) (plan : PlanValue) (count each : ℕ) (a : R) (t : Text)
     → Walks remaining failed sure plan count 0 each a a t t
 walks_none remaining failed sure plan count each a t = record {
   piece = [];
-  grown = sym (append-nil t);
+  grown = adds_none t;
   takes = record { consumed = Consumes-nil (remaining a); counted = refl; calls = after_none (sure a) };
   walk = λ rest. let all : count - 0 ≡ count = omega arith in rw all (plus_none (batches_form plan count rest));
   few = omega arith;
@@ -337,9 +301,9 @@ one_more : (plan : PlanValue) (n : ℕ) (bytes : List ℕ) → batches_form plan
 unfolding batches_form
 one_more plan n bytes = refl
 
-pub walks_next : {R : Type 0} {remaining : R → Option (List ℕ)} {failed : R → ℕ} {sure : R → Option ℕ} {plan : PlanValue} {count i each : ℕ} {a b c : R} {t u v : List ℕ}
+pub walks_next : {R : Type 0} {remaining : R → Option (List ℕ)} {failed : R → ℕ} {sure : R → Option ℕ} {plan : PlanValue} {count i each : ℕ} {a b c : R} {t u v : Text}
     → i < count → Walks remaining failed sure plan count i each a b t u → Grows remaining failed sure (batch_form plan) each b c u v → Walks remaining failed sure plan count (i + 1) each a c t v
-walks_next {plan} {count} {i} {each} {a} {b} {c} {t} lt p q =
+walks_next {plan} {count} {i} {each} {a} {b} {c} lt p q =
     let one = p.piece in
     let two = q.piece in
     let k : count - i ≡ suc (count - (i + 1)) = omega arith in
@@ -347,7 +311,7 @@ walks_next {plan} {count} {i} {each} {a} {b} {c} {t} lt p q =
     let n = count - (i + 1) in
     record {
       piece = one ++ two;
-      grown = q.grown ∙ ap (λ (l : List ℕ). l ++ two) p.grown ∙ append_assoc t one two;
+      grown = adds_then one two p.grown q.grown;
       takes = takes_then a b c one two p.takes q.takes;
       walk = λ rest.
           ap (batches_form plan count) (append_assoc one two rest) ∙ p.walk (two ++ rest)
@@ -358,14 +322,7 @@ walks_next {plan} {count} {i} {each} {a} {b} {c} {t} lt p q =
       few = omega (arith, length-append one two, p.few, q.few, more);
     }
 
-walk_passes : {R : Type 0} {remaining : R → Option (List ℕ)} {failed : R → ℕ} {sure : R → Option ℕ} {plan : PlanValue} {count i each : ℕ} {a b : R} {t u : List ℕ}
-    (p : Walks remaining failed sure plan count i each a b t u) (rest : List ℕ) → Passes (batches_form plan (count - i)) rest → Passes (batches_form plan count) (p.piece ++ rest)
-walk_passes p rest fine = elim fine [
-  | inl is ↦ inl (p.walk rest ∙ ap (λ (r : Result ℕ KeepError). r >>= λ k. Ok (length p.piece + k)) is ∙ ap Ok (sym (length-append p.piece rest)))
-  | inr short ↦ inr (p.walk rest ∙ ap (λ (r : Result ℕ KeepError). r >>= λ k. Ok (length p.piece + k)) short)
-]
-
-pub walks_fails : {R : Type 0} {remaining : R → Option (List ℕ)} {failed : R → ℕ} {sure : R → Option ℕ} {plan : PlanValue} {count i each : ℕ} {a b c : R} {t u : List ℕ} {e : KeepError}
+pub walks_fails : {R : Type 0} {remaining : R → Option (List ℕ)} {failed : R → ℕ} {sure : R → Option ℕ} {plan : PlanValue} {count i each : ℕ} {a b c : R} {t u : Text} {e : KeepError}
     → i < count → Walks remaining failed sure plan count i each a b t u → Fails remaining failed sure (batch_form plan) each b c e → Fails remaining failed sure (batches_form plan count) (count * each) a c e
 walks_fails {plan} {count} {i} {each} {e} lt p q =
     let k : count - i ≡ suc (count - (i + 1)) = omega arith in
@@ -374,15 +331,13 @@ walks_fails {plan} {count} {i} {each} {e} lt p q =
     let most : i * each + each ≤ count * each = rw all (omega arith) in
     fails_then (batches_form plan count) (i * each) (count * each) p.takes p.few most (λ rest is.
     p.walk rest ∙ ap (λ (r : Result ℕ KeepError). r >>= λ k. Ok (length p.piece + k))
-    (ap (λ (j : ℕ). batches_form plan j rest) k ∙ one_more plan n rest ∙ followed-err (batch_form plan) (λ _. batches_form plan n) rest e is))
-    (λ _ rest fine. walk_passes p rest (passes-as (followed (batch_form plan) (λ _. batches_form plan n)) (batches_form plan (count - i)) rest
-    (ap (λ (j : ℕ). batches_form plan j rest) k ∙ one_more plan n rest) (passes-first (batch_form plan) (λ _. batches_form plan n) rest (λ _. passes-batches plan n) fine))) q
+    (ap (λ (j : ℕ). batches_form plan j rest) k ∙ one_more plan n rest ∙ followed-err (batch_form plan) (λ _. batches_form plan n) rest e is)) q
 
 no_more : (plan : PlanValue) (n : ℕ) (bytes : List ℕ) → n ≡ 0 → batches_form plan n bytes ≡ Ok 0
 unfolding batches_form
 no_more plan n bytes e = rw e refl
 
-pub walks_done : {R : Type 0} {remaining : R → Option (List ℕ)} {failed : R → ℕ} {sure : R → Option ℕ} {plan : PlanValue} {count i each : ℕ} {a b : R} {t u : List ℕ}
+pub walks_done : {R : Type 0} {remaining : R → Option (List ℕ)} {failed : R → ℕ} {sure : R → Option ℕ} {plan : PlanValue} {count i each : ℕ} {a b : R} {t u : Text}
     → i ≡ count → Walks remaining failed sure plan count i each a b t u → Grows remaining failed sure (batches_form plan count) (count * each) a b t u
 walks_done {plan} {count} {i} {each} e p = record {
   piece = p.piece;
@@ -442,7 +397,7 @@ seal-short text bytes lt = rw (lt-ltb (length bytes) 32 lt) refl
 pub seal_differs : {R : Type 0} {remaining : R → Option (List ℕ)} {failed : R → ℕ} {sure : R → Option ℕ} {a b : R} {digest : List ℕ} (text : List ℕ)
     → TakesBytes remaining failed sure a b digest → length digest ≡ 32 → bytes_eq digest (sha256 text) ≡ false → Fails remaining failed sure (seal_form text) 33 a b errors.Digest
 seal_differs {remaining} {failed} {sure} {b} {digest} text p len other =
-    fails_then (seal_form text) 32 33 p (omega (arith, len)) (omega arith) (λ rest _. seal-other text digest rest len other) (not_wanting errors.Digest (λ is. is))
+    fails_then (seal_form text) 32 33 p (omega (arith, len)) (omega arith) (λ rest _. seal-other text digest rest len other)
     (fails_here remaining failed sure b (λ _. Err errors.Digest) 1 errors.Digest (λ is. is) (not_wanting errors.Digest (λ is. is)) (λ bytes _. refl))
 
 pub seal_trails : {R : Type 0} {remaining : R → Option (List ℕ)} {failed : R → ℕ} {sure : R → Option ℕ} {a b c : R} {digest more : List ℕ} (text : List ℕ)
@@ -452,7 +407,6 @@ seal_trails {remaining} {failed} {sure} {a} {b} {c} {digest} {more} text p len s
     let size = length-append digest more in
     fails_then (seal_form text) 33 33 (takes_then a b c digest more p q) (omega (arith, size, len, one)) (omega arith)
     (λ rest _. ap (seal_form text) (append_assoc digest more rest) ∙ seal-at text digest (more ++ rest) len same (omega (arith, length-append more rest, one)))
-    (not_wanting errors.Trailing (λ is. is))
     (fails_here remaining failed sure c (λ _. Err errors.Trailing) 0 errors.Trailing (λ is. is) (not_wanting errors.Trailing (λ is. is)) (λ bytes _. refl))
 
 pub seal_unread : {R : Type 0} {remaining : R → Option (List ℕ)} {failed : R → ℕ} {sure : R → Option ℕ} {a b c : R} {digest : List ℕ} (text : List ℕ)
@@ -460,7 +414,6 @@ pub seal_unread : {R : Type 0} {remaining : R → Option (List ℕ)} {failed : R
     → Fails remaining failed sure (seal_form text) 33 a c errors.Read
 seal_unread {remaining} {failed} {sure} {a} {b} {c} {digest} text p len few rises unsure =
     fails_then {form = λ _. Ok 0} (seal_form text) 32 33 p (omega (arith, len)) (omega arith) (λ rest is. absurd (cc))
-    (not_wanting errors.Read (λ is. is))
     (record { few = few; rises = λ _. rises; counted = λ is. absurd (is tt); unsure = λ is _. unsure is; wanting = not_wanting errors.Read (λ is. is); due = λ bytes known is. absurd is })
 
 -- ---- lengths that are told
@@ -526,11 +479,14 @@ after-most part h t le = elim (cases_Bool (h.version == 1)) [
 pub within-head : (part : PartValue) (old new : Option (List ℕ)) → TakesAtMost HEADER_LEN old new → TakesWithin (allowed_content part) old new
 within-head part old new p = record { bytes = p.bytes; consumed = p.consumed; few = omega (arith, p.few) }
 
+-- the front of what has grown
+pub front_kept : (n : ℕ) (front more : List ℕ) → length front ≡ n → take n (front ++ more) ≡ front
+front_kept n front more len = take-append-le n front more (omega (arith, len)) ∙ take_all n front (omega (arith, len))
+
 -- the fixed fields, and then no more than they allow
 pub content-few : (part : PartValue) (h : CheckpointHeader) (head more : List ℕ) → length head ≡ HEADER_LEN → checkpoint_head_at head ≡ h → length more ≤ most_after part h → length (head ++ more) ≤ allowed_content part (head ++ more)
 content-few part h head more len is few =
-    let front : take HEADER_LEN (head ++ more) ≡ head = take-append-le HEADER_LEN head more (omega (arith, len)) ∙ take_all HEADER_LEN head (omega (arith, len)) in
-    rw (front, is) (omega (arith, length-append head more, len, few))
+    rw (front_kept HEADER_LEN head more len, is) (omega (arith, length-append head more, len, few))
 
 pub within-content : (part : PartValue) (h : CheckpointHeader) (a b c : Option (List ℕ)) (head : List ℕ) → length head ≡ HEADER_LEN → checkpoint_head_at head ≡ h → Consumes a b head → TakesAtMost (most_after part h) b c
     → TakesWithin (allowed_content part) a c
@@ -569,7 +525,7 @@ flip_true : (b : Bool) → true ≡ not b → b ≡ false
 flip_true true e = e
 flip_true false e = refl
 
-flip_false : (b : Bool) → false ≡ not b → b ≡ true
+pub flip_false : (b : Bool) → false ≡ not b → b ≡ true
 flip_false true e = refl
 flip_false false e = e
 
@@ -591,10 +547,24 @@ told-bad part piece rest e is = ap (λ (r : Result (Unit {0}) KeepError). r >>= 
 
 -- the fixed fields are refused
 pub head_fails : {R : Type 0} {remaining : R → Option (List ℕ)} {failed : R → ℕ} {sure : R → Option ℕ} {a b : R} {piece : List ℕ} (part : PartValue) (e : KeepError)
-    → TakesBytes remaining failed sure a b piece → length piece ≡ 54 → Err e ≡ check_checkpoint_head part (checkpoint_head_at piece) → (IsRead e → ⊥) → (e ≡ errors.Memory → ⊥) → Fails remaining failed sure (content_form part) 54 a b e
+    → TakesBytes remaining failed sure a b piece → length piece ≡ 54 → Err e ≡ check_checkpoint_head part (checkpoint_head_at piece) → (IsRead e → ⊥) → e ≢ errors.Memory → Fails remaining failed sure (content_form part) 54 a b e
 head_fails {remaining} {failed} {sure} {a} {b} {piece} part e p len is other fine =
     fails_after {most = 0} 54 (told_body part) 54 p len (omega arith)
-    (fails_here remaining failed sure b (told_body part piece) 0 e other (λ is. absurd (fine is)) (λ bytes _. told-bad part piece bytes e is))
+    (fails_here remaining failed sure b (told_body part piece) 0 e other fine (λ bytes _. told-bad part piece bytes e is))
+
+-- the fixed fields were read, and what follows them
+pub content_grown : {R : Type 0} {remaining : R → Option (List ℕ)} {failed : R → ℕ} {sure : R → Option ℕ} {a b c : R} {t u v : Text} (part : PartValue) (h : CheckpointHeader) → (p : GrowsByHead remaining failed sure a b t u h)
+    → check_checkpoint_head part h ≡ Ok tt → h.superstep ≤ part.plan.limit → Grows remaining failed sure (body_form part h) (most_after part h) b c u v → GrowsByContent remaining failed sure part a c t v h
+unfolding grows_then grows_as
+content_grown part h p checked le q =
+    let head = p.grows.piece in
+    let most = most_checkpoint_body part part.plan.limit in
+    record {
+      grows = grows_then (told_body part) (HEADER_LEN + most) p.grows (omega arith) (grows_as (told_body part head) most (λ bytes. told-body part head bytes h (sym p.head) checked) (after-most part h part.plan.limit le) q);
+      long = omega (arith, length-append head q.piece, p.long);
+      head = p.head ∙ ap checkpoint_head_at (sym (front_kept HEADER_LEN head q.piece p.long));
+      few = content-few part h head q.piece p.long (sym p.head) q.few;
+    }
 
 -- the fixed fields were read, and pass
 pub has_head : {R : Type 0} {remaining : R → Option (List ℕ)} {failed : R → ℕ} {sure : R → Option ℕ} {a b : R} {piece : List ℕ} (part : PartValue)
@@ -612,18 +582,6 @@ pub whatever_it_is : {A : Type 0} {has : Type 0} (r : Result A KeepError) → ha
 whatever_it_is (Ok x) h = h
 whatever_it_is (Err e) h = λ _. h
 
--- memory is refused after a piece
-pub memory_fails : {R : Type 0} {remaining : R → Option (List ℕ)} {failed : R → ℕ} {sure : R → Option ℕ} {a b : R} {piece : List ℕ} (form : Form) (most : ℕ)
-    → TakesBytes remaining failed sure a b piece → length piece ≤ most → Passes form piece → Fails remaining failed sure form most a b errors.Memory
-memory_fails {piece} form most p le passes = record {
-  few = record { bytes = piece; consumed = p.consumed; few = le };
-  rises = λ is. absurd is;
-  counted = λ _. p.counted;
-  unsure = λ _ is. is;
-  wanting = λ _. record { bytes = piece; consumed = p.consumed; passes = passes };
-  due = λ bytes known is. absurd is;
-}
-
 -- a call fails
 pub unread_fails : {R : Type 0} {remaining : R → Option (List ℕ)} {failed : R → ℕ} {sure : R → Option ℕ} {a b : R} (form : Form) (most : ℕ)
     → TakesAtMost most (remaining a) (remaining b) → failed a < failed b → (AreSure (sure a) most → ⊥) → Fails remaining failed sure form most a b errors.Read
@@ -636,28 +594,6 @@ unread_fails form most few rises unsure = record {
   due = λ bytes known is. absurd is;
 }
 
--- nothing has come yet of what follows
-pub passes-told : (plan : PlanValue) (piece : List ℕ) → is_batch_length plan (from_be_bytes w64 piece) ≡ true → Passes (told_batch plan piece) []
-passes-told plan piece is = passes-as (needs (from_be_bytes w64 piece)) (told_batch plan piece) [] (told-needs plan piece [] (from_be_bytes w64 piece) refl is)
-    (passes-needs (from_be_bytes w64 piece) [] (omega arith))
-
-pub passes-number : (plan : PlanValue) (piece : List ℕ) → from_be_bytes w16 piece ≤ 3 * (plan.parts - 1) → Passes (told_batches plan piece) []
-passes-number plan piece le = passes-as (batches_form plan (from_be_bytes w16 piece)) (told_batches plan piece) [] (number-told plan piece [] (from_be_bytes w16 piece) refl le)
-    (passes-batches plan (from_be_bytes w16 piece))
-
-pub passes-held : (plan : PlanValue) (version : ℕ) → Passes (held_form plan version) []
-passes-held plan version = elim (cases_Bool (version == 1)) [
-  | inl first ↦ inl (held-none plan version [] (eqb-true version 1 first))
-  | inr second ↦ inr (held-some plan version [] second ∙ followed-err (needs 2) (told_batches plan) [] errors.Short (needs-err 2 [] (omega arith)))
-]
-
-pub passes-body : (part : PartValue) (piece : List ℕ) (h : CheckpointHeader) → checkpoint_head_at piece ≡ h → check_checkpoint_head part h ≡ Ok tt → Passes (told_body part piece) []
-passes-body part piece h is fine = passes-as (body_form part h) (told_body part piece) [] (told-body part piece [] h is fine)
-    (passes-first (needs (fixed_length part h)) (λ _. held_form part.plan h.version) [] (λ _. passes-held part.plan h.version) (passes-needs (fixed_length part h) [] (omega arith)))
-
-pub passes-seal : (text : List ℕ) → Passes (seal_form text) []
-passes-seal text = inr (seal-short text [] (omega arith))
-
 pub seal-fine : (text bytes : List ℕ) → length (sha256 text) ≡ 32 → bytes ≡ sha256 text → seal_form text bytes ≡ Ok 32
 unfolding seal_form
 seal-fine text bytes len is =
@@ -667,39 +603,35 @@ seal-fine text bytes len is =
     rw (le-ltb (length bytes) 32 (omega (arith, size)), same, le-ltb 32 (length bytes) (omega (arith, size))) refl
 
 -- what was read is the content, and its digest behind it
-pub whole_read : {R : Type 0} {remaining : R → Option (List ℕ)} {failed : R → ℕ} {sure : R → Option ℕ} {a b : R} {most : ℕ} {t u : List ℕ} (part : PartValue) → (p : Grows remaining failed sure (content_form part) most a b t u)
-    → (text : List ℕ) → p.piece ≡ text → length (sha256 text) ≡ 32 → sealed_form part (p.piece ++ sha256 text) ≡ Ok (length (p.piece ++ sha256 text))
-whole_read part p text is len =
-    followed-at (content_form part) seal_form p.piece (sha256 text) (p.is_form (sha256 text))
-    ∙ ap (λ (l : List ℕ). seal_form l (sha256 text) >>= λ k. Ok (length p.piece + k)) is
-    ∙ ap (λ (r : Result ℕ KeepError). r >>= λ k. Ok (length p.piece + k)) (seal-fine text (sha256 text) len refl)
-    ∙ ap Ok (omega (arith, length-append p.piece (sha256 text), len))
+pub whole_read : {R : Type 0} {remaining : R → Option (List ℕ)} {failed : R → ℕ} {sure : R → Option ℕ} {a b : R} {most : ℕ} {t u : Text} (part : PartValue) → (p : Grows remaining failed sure (content_form part) most a b t u)
+    → length (sha256 p.piece) ≡ 32 → sealed_form part (p.piece ++ sha256 p.piece) ≡ Ok (length (p.piece ++ sha256 p.piece))
+whole_read part p len =
+    let text = p.piece in
+    followed-at (content_form part) seal_form text (sha256 text) (p.is_form (sha256 text))
+    ∙ ap (λ (r : Result ℕ KeepError). r >>= λ k. Ok (length text + k)) (seal-fine text (sha256 text) len refl)
+    ∙ ap Ok (omega (arith, length-append text (sha256 text), len))
 
 -- all bytes were read and the digest is right
-pub whole_fine : {R : Type 0} {remaining : R → Option (List ℕ)} {failed : R → ℕ} {sure : R → Option ℕ} {a b : R} {most : ℕ} {t u : List ℕ} (c : R) (part : PartValue) (text : List ℕ) → (p : Grows remaining failed sure (content_form part) most a b t u) → p.piece ≡ text
-    → Consumes (remaining b) (remaining c) (sha256 text) → IsAtEnd (remaining c) → length (sha256 text) ≡ 32 → (bytes : List ℕ) → remaining a ≡ Some bytes → sealed_form part bytes ≡ Ok (length text + 32)
-whole_fine {remaining} {a} {b} c part text p is seal end len bytes known =
-    let one = left (remaining a) (remaining b) p.piece bytes p.takes.consumed known in
+pub whole_fine : {R : Type 0} {remaining : R → Option (List ℕ)} {failed : R → ℕ} {sure : R → Option ℕ} {a b : R} {most : ℕ} {t u : Text} (c : R) (part : PartValue) → (p : Grows remaining failed sure (content_form part) most a b t u)
+    → Consumes (remaining b) (remaining c) (sha256 p.piece) → IsAtEnd (remaining c) → length (sha256 p.piece) ≡ 32 → (bytes : List ℕ) → remaining a ≡ Some bytes → sealed_form part bytes ≡ Ok (length p.piece + 32)
+whole_fine {remaining} {a} {b} c part p seal end len bytes known =
+    let text = p.piece in
+    let one = left (remaining a) (remaining b) text bytes p.takes.consumed known in
     let two = left (remaining b) (remaining c) (sha256 text) one.rest seal one.is in
     let none : two.rest ≡ [] = subst IsAtEnd two.is end in
     let rest : one.rest ≡ sha256 text = two.split ∙ ap (λ (l : List ℕ). sha256 text ++ l) none ∙ append-nil (sha256 text) in
-    ap (sealed_form part) one.split ∙ followed-at (content_form part) seal_form p.piece one.rest (p.is_form one.rest)
-    ∙ ap (λ (l : List ℕ). seal_form l one.rest >>= λ k. Ok (length l + k)) is
+    ap (sealed_form part) one.split ∙ followed-at (content_form part) seal_form text one.rest (p.is_form one.rest)
     ∙ ap (λ (r : Result ℕ KeepError). r >>= λ k. Ok (length text + k)) (seal-fine text one.rest len rest)
 
 -- and they are the content, sealed
-pub whole_sealed : {R : Type 0} {remaining : R → Option (List ℕ)} {failed : R → ℕ} {sure : R → Option ℕ} {a b : R} {form : Form} {most : ℕ} {t u : List ℕ} (c : R) (text : List ℕ) → (p : Grows remaining failed sure form most a b t u) → p.piece ≡ text
-    → Consumes (remaining b) (remaining c) (sha256 text) → IsAtEnd (remaining c) → (bytes : List ℕ) → remaining a ≡ Some bytes → bytes ≡ text ++ sha256 text
-whole_sealed {remaining} {a} {b} c text p is seal end bytes known =
-    let one = left (remaining a) (remaining b) p.piece bytes p.takes.consumed known in
+pub whole_sealed : {R : Type 0} {remaining : R → Option (List ℕ)} {failed : R → ℕ} {sure : R → Option ℕ} {a b : R} {form : Form} {most : ℕ} {t u : Text} (c : R) → (p : Grows remaining failed sure form most a b t u)
+    → Consumes (remaining b) (remaining c) (sha256 p.piece) → IsAtEnd (remaining c) → (bytes : List ℕ) → remaining a ≡ Some bytes → bytes ≡ p.piece ++ sha256 p.piece
+whole_sealed {remaining} {a} {b} c p seal end bytes known =
+    let text = p.piece in
+    let one = left (remaining a) (remaining b) text bytes p.takes.consumed known in
     let two = left (remaining b) (remaining c) (sha256 text) one.rest seal one.is in
     let none : two.rest ≡ [] = subst IsAtEnd two.is end in
-    let rest : one.rest ≡ sha256 text = two.split ∙ ap (λ (l : List ℕ). sha256 text ++ l) none ∙ append-nil (sha256 text) in
-    one.split ∙ ap (λ (l : List ℕ). l ++ one.rest) is ∙ ap (λ (l : List ℕ). text ++ l) rest
-
--- the front of what has grown
-pub front_kept : (n : ℕ) (whole front more : List ℕ) → whole ≡ front ++ more → length front ≡ n → take n whole ≡ front
-front_kept n whole front more grown len = ap (take n) grown ∙ take-append-le n front more (omega (arith, len)) ∙ take_all n front (omega (arith, len))
+    one.split ∙ ap (λ (l : List ℕ). text ++ l) (two.split ∙ ap (λ (l : List ℕ). sha256 text ++ l) none ∙ append-nil (sha256 text))
 
 -- a fault of the body is no failed read
 pub body_unread : (e : KeepError) → IsOfBody e → IsRead e → ⊥

@@ -99,7 +99,6 @@ body_refuses sure e p of none = record {
   rises = λ is. absurd (body_unread e of is);
   counted = λ _. p.counted;
   unsure = λ _ is. body_unread e of is;
-  wanting = λ _. record { bytes = p.few.bytes; consumed = p.few.consumed; passes = inl p.whole };
   due = λ bytes known told. elim of [
     | inl memory ↦ absurd (subst IsOfBytes memory told)
     | inr shape ↦ inr (shape, p.is_form bytes known, none shape bytes known)
@@ -109,7 +108,7 @@ body_refuses sure e p of none = record {
 -- what was not read whole
 pub fails_refuse : {R : Type 0} {remaining : R → Option (List ℕ)} {failed : R → ℕ} {sure : R → Option ℕ} {part : PartValue} {most : ℕ} {a b : R} {e : KeepError}
     → Fails remaining failed sure (sealed_form part) most a b e → RefusesAs remaining failed sure part most a b e
-fails_refuse p = record { few = p.few; rises = p.rises; counted = p.counted; unsure = p.unsure; wanting = p.wanting; due = λ bytes known of. inl (p.due bytes known of) }
+fails_refuse p = record { few = p.few; rises = p.rises; counted = p.counted; unsure = p.unsure; due = λ bytes known of. inl (p.due bytes known of) }
 
 -- what is not of the bytes
 pub want_of : (e : KeepError) → (IsOfBytes e → ⊥) → (e ≡ errors.Memory) ⊎ (e ≡ errors.Read)

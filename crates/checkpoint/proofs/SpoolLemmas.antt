@@ -11,7 +11,8 @@ use Rattle.checkpoint.specs.declared.spool.Spool.{Spool}
 use Rattle.edgelist.specs.Planning.{Hashes}
 use Rattle.checkpoint.specs.Writing.{Writes, StopsWriting}
 use Rattle.checkpoint.specs.Spooled.{PassesOn, waiting}
-use Rattle.checkpoint.proofs.WriteLemmas.{writes_none, writes_then, stops_first, stops_then, hashes_then, hashes_none, pieces_split, pieces_more}
+use Rattle.checkpoint.proofs.DigestLemmas.{hashes_none, hashes_then}
+use Rattle.checkpoint.proofs.WriteLemmas.{writes_none, writes_then, stops_first, stops_then, pieces_split, pieces_more}
 
 module _ {W : Type 0} (contents : W → Option (List ℕ)) (failed : W → ℕ) (sure : W → Option ℕ) (room : W → ℕ) where
   abbrev passes : W → W → Spool → Spool → List ℕ → Type 0

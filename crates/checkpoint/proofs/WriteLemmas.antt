@@ -3,14 +3,11 @@ use Rattle.std.proofs.Common.{◌≡◌, ℕ, zero, suc, ◌+◌, ◌<◌, List,
 use Rattle.std.specs.Prelude.{Option}
 use Rattle.std.specs.List.{flat_map}
 use Rattle.std.proofs.KnownBytes.{Appends-nil, Appends-trans}
-use Rattle.std.proofs.lemmas.List.{length-append, append-nil}
+use Rattle.std.proofs.lemmas.List.{length-append}
 use Rattle.std.proofs.lemmas.Grind.{flat_map-append}
 use Rattle.std.proofs.Math.Seq.{take-suc}
-use Rattle.sha2.specs.declared.Sha256.{Sha256}
-use Rattle.sha2.specs.Hashers.{Holds256}
 use Rattle.ball_model.specs.Streams.{AfterAtMost, AreSure}
 use Rattle.ball_model.proofs.StreamLemmas.{after_none}
-use Rattle.edgelist.specs.Planning.{Hashes}
 use Rattle.checkpoint.specs.Writing.{Writes, StopsWriting}
 use Rattle.checkpoint.proofs.ReaderLemmas.{after_then, sure_fewer, sure_rest}
 
@@ -78,10 +75,3 @@ pub pieces_split : {X : Type 0} (f : X → List ℕ) (xs : List X) (k : ℕ) (d 
 pieces_split f [] k d lt = absurd (omega (arith, lt))
 pieces_split f (x ∷ xs) zero d lt = refl
 pieces_split f (x ∷ xs) (suc k) d lt = ap (λ l. f x ++ l) (pieces_split f xs k d (omega (arith, lt))) ∙ sym (append_assoc (f x) _ _)
-
--- ---- digests
-pub hashes_then : (a b c : Sha256) (xs ys : List ℕ) → Hashes a b xs → Hashes b c ys → Hashes a c (xs ++ ys)
-hashes_then a b c xs ys p q m h = subst (λ (l : List ℕ). Holds256 c l) (append_assoc m xs ys) (q (m ++ xs) (p m h))
-
-pub hashes_none : (a : Sha256) → Hashes a a []
-hashes_none a m h = subst (λ (l : List ℕ). Holds256 a l) (sym (append-nil m)) h

@@ -17,6 +17,8 @@ use Rattle.replica.specs.declared.early.TheConstants.{LEVELS}
 use Rattle.checkpoint.specs.declared.error.KeepError.{KeepError}
 use Rattle.checkpoint.specs.declared.error.KeepError.TheVariants as errors
 use Rattle.checkpoint.specs.declared.header.CheckpointHeader.{CheckpointHeader}
+use Rattle.checkpoint.specs.Texts.{Adds}
+use Rattle.checkpoint.specs.declared.text.Text.{Text}
 use Rattle.checkpoint.specs.declared.sizes.TheConstants.{HEADER_LEN, ENTRY_LEN, SUM_LEN, HEARD_LEN, COUNT_LEN, LENGTH_LEN, DIGEST_LEN}
 
 -- A form says how many of the bytes at the front are its own, or why they are refused.
@@ -134,16 +136,6 @@ seal_form content bytes =
 abbrev pub sealed_form : PartValue → Form
 sealed_form part = followed (content_form part) seal_form
 
--- no check of the bytes fails: they are of the form, or more has to come
-abbrev pub Passes : Form → List ℕ → Type 0
-Passes form bytes = (form bytes ≡ Ok (length bytes)) ⊎ (form bytes ≡ Err errors.Short)
-
--- no check of what was read fails
-pub record PassesSoFar (form : Form) (old new : Option (List ℕ)) : Type 0 where
-  pub bytes : List ℕ
-  pub consumed : Consumes old new bytes
-  pub passes : Passes form bytes
-
 -- ---- what is read at most
 abbrev pub most_early : PlanValue → ℕ
 most_early plan = COUNT_LEN + LEVELS * (plan.parts - 1) * (LENGTH_LEN + greatest_batch plan)
@@ -201,23 +193,40 @@ pub record TakesBytes {R : Type 0} (remaining : R → Option (List ℕ)) (failed
 
 -- the bytes of a form, at most so many, were read behind what was there
 pub record Grows {R : Type 0} (remaining : R → Option (List ℕ)) (failed : R → ℕ)
-    (sure : R → Option ℕ) (form : Form) (most : ℕ) (old new : R) (before after : List ℕ) : Type 0
+    (sure : R → Option ℕ) (form : Form) (most : ℕ) (old new : R) (before after : Text) : Type 0
   where
     pub piece : List ℕ
-    pub grown : after ≡ before ++ piece
+    pub grown : Adds before after piece
     pub takes : TakesBytes remaining failed sure old new piece
     pub is_form : (rest : List ℕ) → form (piece ++ rest) ≡ Ok (length piece)
     pub few : length piece ≤ most
 
--- they were not: a call failed that was not sure, memory was refused where no check of what was read fails, or the bytes
--- are refused
+-- the fixed fields were read behind what was there
+pub record GrowsByHead {R : Type 0} (remaining : R → Option (List ℕ)) (failed : R → ℕ)
+    (sure : R → Option ℕ) (old new : R) (before after : Text) (h : CheckpointHeader) : Type 0
+  where
+    pub grows : Grows remaining failed sure (needs HEADER_LEN) HEADER_LEN old new before after
+    pub long : length grows.piece ≡ HEADER_LEN
+    pub head : h ≡ checkpoint_head_at grows.piece
+
+-- all that stands before the digest was, and it is no longer than its fixed fields allow
+pub record GrowsByContent {R : Type 0} (remaining : R → Option (List ℕ)) (failed : R → ℕ)
+    (sure : R → Option ℕ) (part : PartValue) (old new : R) (before after : Text)
+    (h : CheckpointHeader) : Type 0 where
+  pub grows : Grows remaining failed sure (content_form part)
+      (HEADER_LEN + most_checkpoint_body part part.plan.limit) old new before after
+  pub long : HEADER_LEN ≤ length grows.piece
+  pub head : h ≡ checkpoint_head_at (take HEADER_LEN grows.piece)
+  pub few : length grows.piece ≤ allowed_content part grows.piece
+
+-- they were not, which is never for want of memory: a call failed that was not sure, or the bytes are refused
 pub record Fails {R : Type 0} (remaining : R → Option (List ℕ)) (failed : R → ℕ)
     (sure : R → Option ℕ) (form : Form) (most : ℕ) (old new : R) (e : KeepError) : Type 0 where
   pub few : TakesAtMost most (remaining old) (remaining new)
   pub rises : IsRead e → Rises (failed old) (failed new)
   pub counted : (IsRead e → ⊥) → failed new ≡ failed old
   pub unsure : AreSure (sure old) most → IsRead e → ⊥
-  pub wanting : e ≡ errors.Memory → PassesSoFar form (remaining old) (remaining new)
+  pub wanting : e ≢ errors.Memory
   pub due : (bytes : List ℕ) → remaining old ≡ Some bytes → IsOfBytes e → form bytes ≡ Err e
 
 -- all bytes were read, at most so many and no more, and are of the form
@@ -239,16 +248,14 @@ pub record TellNone (part : PartValue) (bytes : List ℕ) : Type 0 where
   pub second : (v : State) → IsKeepable v → v.part ≡ part → bytes ≢ checkpoint_bytes v
   pub first : (v : State) → IsKeepable v → v.part ≡ part → bytes ≢ first_checkpoint_bytes v
 
--- a call failed that was not sure, memory was refused where no check of what was read fails, the form of the part refuses
--- the bytes, or they are of the form and tell what no replica has
+-- a call failed that was not sure, memory was refused, the form of the part refuses the bytes, or they are of the form and
+-- tell what no replica has
 pub record RefusesAs {R : Type 0} (remaining : R → Option (List ℕ)) (failed : R → ℕ)
     (sure : R → Option ℕ) (part : PartValue) (most : ℕ) (old new : R) (e : KeepError) : Type 0 where
   pub few : TakesAtMost most (remaining old) (remaining new)
   pub rises : IsRead e → Rises (failed old) (failed new)
   pub counted : (IsRead e → ⊥) → failed new ≡ failed old
   pub unsure : AreSure (sure old) most → IsRead e → ⊥
-  pub wanting : e ≡ errors.Memory →
-      PassesSoFar (sealed_form part) (remaining old) (remaining new)
   pub due : (bytes : List ℕ) → remaining old ≡ Some bytes → IsOfBytes e →
       (sealed_form part bytes ≡ Err e)
       ⊎ ((e ≡ errors.Shape) × IsOk (sealed_form part bytes) × TellNone part bytes)

@@ -21,6 +21,7 @@ mod saved;
 pub mod sizes;
 mod spool;
 mod stream;
+mod text;
 pub mod write;
 
 pub use ball_model::{CountedRead, CountedWrite};

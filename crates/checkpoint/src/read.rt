@@ -1,7 +1,7 @@
 //! Reading a checkpoint.
 
 ghost use Rattle.std.specs.Prelude.{◌≡◌, ◌+◌, ◌≤◌, ℕ, List, [], Ok, Err, Some, IfOk, OnOk, OnErr};
-ghost use Rattle.std.specs.Prelude.{IfErr, length, take, ◌⊎◌};
+ghost use Rattle.std.specs.Prelude.{IfErr, length, take, true, ◌⊎◌};
 ghost use Rattle.std.specs.Arc.{arc_value};
 ghost use Rattle.ball_model.specs.Checkpoint.{checkpoint_bytes, first_checkpoint_bytes, sealed};
 ghost use Rattle.ball_model.specs.Checkpoint.{without_names};
@@ -14,7 +14,9 @@ ghost use Rattle.checkpoint.specs.Reading.{needs, checkpoint_head_at, check_chec
 ghost use Rattle.checkpoint.specs.Reading.{content_form, sealed_form};
 ghost use Rattle.checkpoint.specs.Reading.{allowed, allowed_content, Ends};
 ghost use Rattle.checkpoint.specs.Reading.{most_checkpoint_body, most_checkpoint_bytes};
-ghost use Rattle.checkpoint.specs.Reading.{Grows, Fails, RefusesAs, HasHead, TakesWithin, IsRead};
+ghost use Rattle.checkpoint.specs.Reading.{GrowsByHead, GrowsByContent, Fails, RefusesAs, HasHead};
+ghost use Rattle.checkpoint.specs.Reading.{TakesWithin, IsRead};
+ghost use Rattle.checkpoint.specs.Texts.{IsFresh};
 ghost use Rattle.checkpoint.specs.Reading.{IsOfBytes, IsReplicaSpelling, IfOkButWant, OnOkOrMemory};
 
 use crate::error::KeepError;
@@ -22,6 +24,7 @@ use crate::header::{CheckpointHeader, check_header, read_header};
 use crate::saved::saved_of;
 use crate::sizes::HEADER_LEN;
 use crate::stream::{read_body, read_full, read_seal};
+use crate::text::Text;
 use ball_model::CountedRead;
 use edgelist::Part;
 use replica::{Replica, Saved};
@@ -41,22 +44,19 @@ pub fn check_front(part: &Part, bytes: &[u8]) -> Result<(), KeepError>
     check_header(part, &read_header(&bytes[..HEADER_LEN]))
 }
 
-// Reads the fixed fields into the text, and checks them before it takes memory.
+// Reads the fixed fields behind the text, and checks them before.
 fn read_head<R: CountedRead>(
     part: &Part,
     reader: &mut R,
-    text: &mut Vec<u8>,
+    text: &mut Text,
 ) -> Result<CheckpointHeader, KeepError>
-    requires { text.old.items ≡ [] }
-    ensures done { OnOk result (Grows R.remaining R.failed_calls R.sure_calls (needs HEADER_LEN)
-        HEADER_LEN reader.old reader.new text.old.items text.new.items) }
-    ensures head { IfOk result (λ h. h ≡ checkpoint_head_at text.new.items) }
-    ensures length { OnOk result (length text.new.items ≡ HEADER_LEN) }
+    ensures done { IfOk result (GrowsByHead R.remaining R.failed_calls R.sure_calls
+        reader.old reader.new text.old text.new) }
     ensures checked { IfOk result (λ h. check_checkpoint_head part.now h ≡ Ok tt) }
     ensures in_time { IfOk result (λ h. h.superstep ≤ part.now.plan.limit) }
     ensures small { IfOk result (λ h. h.superstep ≤ greatest_limit) }
     ensures front { (bytes : List ℕ) → R.remaining reader.old ≡ Some bytes →
-        OnOkOrMemory result (HasHead part.now bytes) }
+        OnOk result (HasHead part.now bytes) }
     ensures fails { IfErr result (λ e. Fails R.remaining R.failed_calls R.sure_calls
         (content_form part.now) HEADER_LEN reader.old reader.new e) }
 {
@@ -64,7 +64,7 @@ fn read_head<R: CountedRead>(
     read_full(reader, &mut head)?;
     let header = read_header(&head);
     check_header(part, &header)?;
-    text.extend_from_slice(&head)?;
+    text.put(&head);
     Ok(header)
 }
 
@@ -72,21 +72,16 @@ fn read_head<R: CountedRead>(
 fn read_content<R: CountedRead>(
     part: &Part,
     reader: &mut R,
-    text: &mut Vec<u8>,
+    text: &mut Text,
 ) -> Result<CheckpointHeader, KeepError>
-    requires { text.old.items ≡ [] }
-    ensures done { OnOk result (Grows R.remaining R.failed_calls R.sure_calls
-        (content_form part.now) (HEADER_LEN + most_checkpoint_body part.now part.now.plan.limit)
-        reader.old reader.new text.old.items text.new.items) }
-    ensures few { OnOk result (length text.new.items ≤ allowed_content part.now text.new.items) }
+    ensures done { IfOk result (GrowsByContent R.remaining R.failed_calls R.sure_calls part.now
+        reader.old reader.new text.old text.new) }
     ensures within { OnErr result
         (TakesWithin (allowed_content part.now) (R.remaining reader.old) (R.remaining reader.new)) }
-    ensures head { IfOk result (λ h. h ≡ checkpoint_head_at (take HEADER_LEN text.new.items)) }
-    ensures length { OnOk result (HEADER_LEN ≤ length text.new.items) }
     ensures checked { IfOk result (λ h. check_checkpoint_head part.now h ≡ Ok tt) }
     ensures small { IfOk result (λ h. h.superstep ≤ greatest_limit) }
     ensures front { (bytes : List ℕ) → R.remaining reader.old ≡ Some bytes →
-        OnOkOrMemory result (HasHead part.now bytes) }
+        OnOk result (HasHead part.now bytes) }
     ensures fails { IfErr result (λ e. Fails R.remaining R.failed_calls R.sure_calls
         (content_form part.now) (HEADER_LEN + most_checkpoint_body part.now part.now.plan.limit)
         reader.old reader.new e) }
@@ -100,27 +95,31 @@ fn read_content<R: CountedRead>(
 fn read_text<R: CountedRead>(
     part: &Part,
     reader: &mut R,
-    text: &mut Vec<u8>,
+    text: &mut Text,
 ) -> Result<CheckpointHeader, KeepError>
-    requires { text.old.items ≡ [] }
+    requires { IsFresh text.old }
     ensures done { OnOk result (Ends R.remaining R.failed_calls (sealed_form part.now)
         (most_checkpoint_bytes part.now part.now.plan.limit + 1) reader.old reader.new) }
     ensures within { TakesWithin (allowed part.now)
         (R.remaining reader.old) (R.remaining reader.new) }
-    ensures head { IfOk result (λ h. h ≡ checkpoint_head_at (take HEADER_LEN text.new.items)) }
-    ensures length { OnOk result (HEADER_LEN ≤ length text.new.items) }
+    ensures head { text.new.whole ≡ true → IfOk result (λ h.
+        h ≡ checkpoint_head_at (take HEADER_LEN text.new.bytes.items)) }
+    ensures length { text.new.whole ≡ true →
+        OnOk result (HEADER_LEN ≤ length text.new.bytes.items) }
     ensures checked { IfOk result (λ h. check_checkpoint_head part.now h ≡ Ok tt) }
-    ensures sealed { OnOk result ((bytes : List ℕ) → R.remaining reader.old ≡ Some bytes →
-        bytes ≡ sealed text.new.items) }
+    ensures sealed { text.new.whole ≡ true →
+        OnOk result ((bytes : List ℕ) → R.remaining reader.old ≡ Some bytes →
+        bytes ≡ sealed text.new.bytes.items) }
     ensures small { IfOk result (λ h. h.superstep ≤ greatest_limit) }
     ensures front { (bytes : List ℕ) → R.remaining reader.old ≡ Some bytes →
-        OnOkOrMemory result (HasHead part.now bytes) }
+        OnOk result (HasHead part.now bytes) }
     ensures fails { IfErr result (λ e. Fails R.remaining R.failed_calls R.sure_calls
         (sealed_form part.now) (most_checkpoint_bytes part.now part.now.plan.limit + 1)
         reader.old reader.new e) }
 {
     let header = read_content(part, reader, text)?;
-    read_seal(reader, text)?;
+    let right = text.digest();
+    read_seal(reader, &right)?;
     Ok(header)
 }
 
@@ -145,7 +144,7 @@ fn read_saved<R: CountedRead>(
     reader: &mut R,
 ) -> Result<Saved, KeepError>
     ensures fits { IfOk result (λ s. Fits part.now s) }
-    ensures done { OnOk result (Ends R.remaining R.failed_calls (sealed_form part.now)
+    ensures done { OnOkOrMemory result (Ends R.remaining R.failed_calls (sealed_form part.now)
         (most_checkpoint_bytes part.now part.now.plan.limit + 1) reader.old reader.new) }
     ensures within { TakesWithin (allowed part.now)
         (R.remaining reader.old) (R.remaining reader.new) }
@@ -161,9 +160,10 @@ fn read_saved<R: CountedRead>(
         part.now (most_checkpoint_bytes part.now part.now.plan.limit + 1)
         reader.old reader.new e) }
 {
-    let mut text = Vec::new(alloc);
+    let mut text = Text::new(alloc);
     let header = read_text(part, reader, &mut text)?;
-    let saved = saved_of(alloc, part, &header, &text)?;
+    let bytes = text.bytes()?;
+    let saved = saved_of(alloc, part, &header, bytes)?;
     fitting(part, saved)
 }
 
@@ -171,13 +171,14 @@ fn read_saved<R: CountedRead>(
 ///
 /// The bytes are checked in this order: [`Short`](KeepError::Short) (fixed fields), [`Magic`](KeepError::Magic),
 /// [`Version`](KeepError::Version), [`OtherJob`](KeepError::OtherJob), [`OtherPart`](KeepError::OtherPart),
-/// [`Shape`](KeepError::Shape) (fixed fields), [`Memory`](KeepError::Memory), `Short` (up to the accumulators, or in
-/// version 1 up to the sums); the number of early batches (`Short`, `Shape`), and each batch's length (`Short`,
-/// `Shape`) and bytes (`Memory`, `Short`); `Short` (digest), [`Digest`](KeepError::Digest),
-/// [`Trailing`](KeepError::Trailing); and then `Shape` and `Memory` of what the bytes tell.
-/// [`Read`](KeepError::Read) is answered where a call of the reader fails.
+/// [`Shape`](KeepError::Shape) (fixed fields), `Short` (up to the accumulators, or in version 1 up to the sums); the
+/// number of early batches (`Short`, `Shape`), and each batch's length (`Short`, `Shape`) and bytes (`Short`); `Short`
+/// (digest), [`Digest`](KeepError::Digest), [`Trailing`](KeepError::Trailing); then [`Memory`](KeepError::Memory) for
+/// the text, and `Shape` and `Memory` of what the bytes tell. [`Read`](KeepError::Read) is answered where a call of the
+/// reader fails.
 ///
-/// Memory is taken as the bytes come, never for a number that they only claim. Version 1 tells of no batches.
+/// Memory is taken as the bytes come, never for a number that they only claim. Where it is refused the rest is read
+/// without it, and checked as before. Version 1 tells of no batches.
 pub fn read_checkpoint<R: CountedRead>(
     alloc: Global,
     part: Arc<Part>,
@@ -185,8 +186,9 @@ pub fn read_checkpoint<R: CountedRead>(
 ) -> Result<Replica, KeepError>
     // The replica is of the part.
     ensures part { IfOk result (λ r. r.part ≡ arc_value part) }
-    // All bytes were read, their parts stand in order, and the digest is right.
-    ensures whole { OnOk result (Ends R.remaining R.failed_calls (sealed_form (arc_value part))
+    // If it is Ok, and if memory was refused, all bytes were read, their parts are in order, and the digest is right.
+    ensures whole { OnOkOrMemory result (Ends R.remaining R.failed_calls
+        (sealed_form (arc_value part))
         (most_checkpoint_bytes (arc_value part) (arc_value part).plan.limit + 1)
         reader.old reader.new) }
     // What is read is a spelling of the replica: in version 2, or in version 1 of one that holds nothing.

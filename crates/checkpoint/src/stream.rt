@@ -1,6 +1,6 @@
 //! The bytes of a checkpoint, as they come from a reader.
 
-ghost use Rattle.std.specs.Prelude.{◌≡◌, ◌+◌, ◌*◌, ◌≤◌, length, OnOk, IfErr};
+ghost use Rattle.std.specs.Prelude.{◌≡◌, ℕ, ◌+◌, ◌*◌, ◌≤◌, List, length, OnOk, IfErr};
 ghost use Rattle.std.specs.Int.{w64};
 ghost use Rattle.std.specs.Io.KnownBytes.{Consumes, IsAtEnd};
 ghost use Rattle.sha2.specs.Sha256.{sha256};
@@ -16,10 +16,10 @@ use crate::header::CheckpointHeader;
 use crate::sizes::{
     COUNT_LEN, DIGEST_LEN, ENTRY_LEN, HEARD_LEN, ID_LEN, LENGTH_LEN, PIECE, SUM_LEN,
 };
+use crate::text::Text;
 use ball_model::{CountedRead, Filled, Plan, fill};
 use edgelist::Part;
 use replica::LEVELS;
-use sha2::{Digest, Sha256};
 
 // The big-endian number of eight bytes at a place.
 pub(crate) fn u64_at(bytes: &[u8], at: usize) -> u64
@@ -37,7 +37,6 @@ pub(crate) fn read_full<R: CountedRead>(reader: &mut R, buffer: &mut [u8]) -> Re
         reader.old reader.new buffer.new) }
     ensures fails { IfErr result (λ e. Fails R.remaining R.failed_calls R.sure_calls
         (needs (length buffer.old)) (length buffer.old) reader.old reader.new e) }
-    ensures memory { IfErr result (λ e. e ≡ KeepError.Memory → ⊥) }
 {
     match fill(reader, buffer) {
         Filled::Full => Ok(()),
@@ -49,30 +48,26 @@ pub(crate) fn read_full<R: CountedRead>(reader: &mut R, buffer: &mut [u8]) -> Re
 // Reads a piece behind the text.
 fn read_piece<R: CountedRead>(
     reader: &mut R,
-    text: &mut Vec<u8>,
+    text: &mut Text,
     count: usize,
 ) -> Result<(), KeepError>
     requires { count ≤ PIECE }
     ensures done { OnOk result (Grows R.remaining R.failed_calls R.sure_calls (needs count) count
-        reader.old reader.new text.old.items text.new.items) }
+        reader.old reader.new text.old text.new) }
     ensures fails { IfErr result (λ e. Fails R.remaining R.failed_calls R.sure_calls (needs count)
         count reader.old reader.new e) }
 {
     let mut buffer = [0; PIECE];
     let (piece, _) = buffer.split_at_mut(count);
     read_full(reader, piece)?;
-    text.extend_from_slice(piece)?;
+    text.put(piece);
     Ok(())
 }
 
 // Reads so many bytes behind the text, which grows as they come.
-fn read_more<R: CountedRead>(
-    reader: &mut R,
-    text: &mut Vec<u8>,
-    count: usize,
-) -> Result<(), KeepError>
+fn read_more<R: CountedRead>(reader: &mut R, text: &mut Text, count: usize) -> Result<(), KeepError>
     ensures done { OnOk result (Grows R.remaining R.failed_calls R.sure_calls (needs count) count
-        reader.old reader.new text.old.items text.new.items) }
+        reader.old reader.new text.old text.new) }
     ensures fails { IfErr result (λ e. Fails R.remaining R.failed_calls R.sure_calls (needs count)
         count reader.old reader.new e) }
 {
@@ -99,14 +94,10 @@ fn may_be_batch(plan: &Plan, length: u64) -> bool
 }
 
 // Reads a batch and before it its length.
-fn read_batch<R: CountedRead>(
-    reader: &mut R,
-    plan: &Plan,
-    text: &mut Vec<u8>,
-) -> Result<(), KeepError>
+fn read_batch<R: CountedRead>(reader: &mut R, plan: &Plan, text: &mut Text) -> Result<(), KeepError>
     ensures done { OnOk result (Grows R.remaining R.failed_calls R.sure_calls (batch_form plan.now)
         (LENGTH_LEN + greatest_batch plan.now)
-        reader.old reader.new text.old.items text.new.items) }
+        reader.old reader.new text.old text.new) }
     ensures fails { IfErr result (λ e. Fails R.remaining R.failed_calls R.sure_calls
         (batch_form plan.now) (LENGTH_LEN + greatest_batch plan.now) reader.old reader.new e) }
 {
@@ -116,7 +107,7 @@ fn read_batch<R: CountedRead>(
     if !may_be_batch(plan, length) {
         return Err(KeepError::Shape);
     }
-    text.extend_from_slice(&number)?;
+    text.put(&number);
     read_more(reader, text, length as usize)
 }
 
@@ -124,12 +115,12 @@ fn read_batch<R: CountedRead>(
 fn read_batches<R: CountedRead>(
     reader: &mut R,
     plan: &Plan,
-    text: &mut Vec<u8>,
+    text: &mut Text,
     count: u16,
 ) -> Result<(), KeepError>
     ensures done { OnOk result (Grows R.remaining R.failed_calls R.sure_calls
         (batches_form plan.now count) (count * (LENGTH_LEN + greatest_batch plan.now))
-        reader.old reader.new text.old.items text.new.items) }
+        reader.old reader.new text.old text.new) }
     ensures fails { IfErr result (λ e. Fails R.remaining R.failed_calls R.sure_calls
         (batches_form plan.now count) (count * (LENGTH_LEN + greatest_batch plan.now))
         reader.old reader.new e) }
@@ -141,13 +132,9 @@ fn read_batches<R: CountedRead>(
 }
 
 // Reads the early batches and before them their number.
-fn read_early<R: CountedRead>(
-    reader: &mut R,
-    plan: &Plan,
-    text: &mut Vec<u8>,
-) -> Result<(), KeepError>
+fn read_early<R: CountedRead>(reader: &mut R, plan: &Plan, text: &mut Text) -> Result<(), KeepError>
     ensures done { OnOk result (Grows R.remaining R.failed_calls R.sure_calls (early_form plan.now)
-        (most_early plan.now) reader.old reader.new text.old.items text.new.items) }
+        (most_early plan.now) reader.old reader.new text.old text.new) }
     ensures fails { IfErr result (λ e. Fails R.remaining R.failed_calls R.sure_calls
         (early_form plan.now) (most_early plan.now) reader.old reader.new e) }
 {
@@ -157,7 +144,7 @@ fn read_early<R: CountedRead>(
     if count > LEVELS as u16 * (plan.parts() - 1) {
         return Err(KeepError::Shape);
     }
-    text.extend_from_slice(&told)?;
+    text.put(&told);
     read_batches(reader, plan, text, count)
 }
 
@@ -180,12 +167,12 @@ pub(crate) fn read_body<R: CountedRead>(
     reader: &mut R,
     part: &Part,
     header: &CheckpointHeader,
-    text: &mut Vec<u8>,
+    text: &mut Text,
 ) -> Result<(), KeepError>
     requires { header.now.superstep ≤ greatest_limit }
     ensures done { OnOk result (Grows R.remaining R.failed_calls R.sure_calls
         (body_form part.now header.now) (most_after part.now header.now)
-        reader.old reader.new text.old.items text.new.items) }
+        reader.old reader.new text.old text.new) }
     ensures fails { IfErr result (λ e. Fails R.remaining R.failed_calls R.sure_calls
         (body_form part.now header.now) (most_after part.now header.now)
         reader.old reader.new e) }
@@ -197,15 +184,15 @@ pub(crate) fn read_body<R: CountedRead>(
     read_early(reader, part.plan(), text)
 }
 
-// Reads the digest of the text, after which nothing may come.
-pub(crate) fn read_seal<R: CountedRead>(reader: &mut R, text: &[u8]) -> Result<(), KeepError>
+// Reads this digest of what came before it, after which nothing may come.
+pub(crate) fn read_seal<R: CountedRead>(reader: &mut R, right: &[u8; 32]) -> Result<(), KeepError>
     ensures done { OnOk result (Consumes (R.remaining reader.old) (R.remaining reader.new)
-        (sha256 text.now)) }
+        right.now) }
     ensures counted { OnOk result (R.failed_calls reader.new ≡ R.failed_calls reader.old) }
     ensures end { OnOk result (IsAtEnd (R.remaining reader.new)) }
-    ensures fails { IfErr result (λ e. Fails R.remaining R.failed_calls R.sure_calls
-        (seal_form text.now) (DIGEST_LEN + 1) reader.old reader.new e) }
-    ensures memory { IfErr result (λ e. e ≡ KeepError.Memory → ⊥) }
+    ensures fails { (content : List ℕ) → right.now ≡ sha256 content →
+        IfErr result (λ e. Fails R.remaining R.failed_calls R.sure_calls
+        (seal_form content) (DIGEST_LEN + 1) reader.old reader.new e) }
 {
     let mut digest = [0; DIGEST_LEN];
     match fill(reader, &mut digest) {
@@ -213,7 +200,7 @@ pub(crate) fn read_seal<R: CountedRead>(reader: &mut R, text: &[u8]) -> Result<(
         Filled::Ended { count: _ } => return Err(KeepError::Short),
         Filled::Failed => return Err(KeepError::Read),
     }
-    if digest != Sha256::digest(text) {
+    if digest != *right {
         return Err(KeepError::Digest);
     }
     let mut more = [0; 1];

@@ -12,7 +12,7 @@ use Rattle.edgelist.specs.declared.edge.Edge.{Edge}
 use Rattle.edgelist.specs.declared.pieces.EdgeReader.{EdgeReader}
 use Rattle.edgelist.specs.declared.read.Delimiter.{Delimiter}
 use Rattle.edgelist.specs.declared.read.EdgeError.{EdgeError}
-use Rattle.edgelist.proofs.PieceLemmas.{plain-front, plain-held, records-held, records-joined, through-network}
+use Rattle.edgelist.proofs.PieceLemmas.{given-some, plain-front, plain-held, records-held, records-joined, through-network}
 
 -- no text has no records
 pub records-none : (d : ℕ) → records d [] ≡ []
@@ -21,7 +21,7 @@ records-none d = refl
 
 held-more : (done left lines : List ℕ) (b : ℕ) → IsLeftOf done left lines → IsLeftOf done (left ++ b ∷ []) (lines ++ b ∷ [])
 held-more done left lines b (inl h) = inl (h.0, ap (λ (l : List ℕ). l ++ b ∷ []) h.1)
-held-more done left lines b (inr h) = inr (ap (λ (l : List ℕ). l ++ b ∷ []) h)
+held-more done left lines b (inr h) = inr (h.0, ap (λ (l : List ℕ). l ++ b ∷ []) h.1)
 
 -- one byte more is held
 pub given-more : (limits : Limits) (delimiter : Delimiter) (text : List ℕ) (b : ℕ) (r s : EdgeReader) →
@@ -63,9 +63,9 @@ given-through limits delimiter text r n labels edges g reads plain =
 
 -- the lines that were held are read
 pub given-read : (limits : Limits) (delimiter : Delimiter) (text : List ℕ) (r s : EdgeReader) →
-    IsGivenUnder limits delimiter text r → EndsLine text → s.failed ≡ None → s.delimiter ≡ r.delimiter → s.limits ≡ r.limits → s.lines.items ≡ 10 ∷ [] →
+    IsGivenUnder limits delimiter text r → EndsLine text → 0 < length r.lines.items → s.failed ≡ None → s.delimiter ≡ r.delimiter → s.limits ≡ r.limits → s.lines.items ≡ 10 ∷ [] →
     ReadsHeld r s.number s.reading.labels s.reading.edges.items → IsGivenUnder limits delimiter text s
-given-read limits delimiter text r s g ends failed delim within held reads = record {
+given-read limits delimiter text r s g ends some failed delim within held reads = record {
   none = failed;
   delimiter_is = delim ∙ g.delimiter_is;
   limits_are = ap limits_of within ∙ g.limits_are;
@@ -73,7 +73,7 @@ given-read limits delimiter text r s g ends failed delim within held reads = rec
   left = [];
   text_is = sym (append-nil text);
   ends = ends;
-  held = inr held;
+  held = inr (rw g.text_is (given-some g.done g.left r.lines.items g.held some), held);
   through = λ plain. rw within (given-through limits delimiter text r s.number s.reading.labels s.reading.edges.items g reads plain);
 }
 
@@ -97,7 +97,8 @@ refused-by limits delimiter text r rest e g refuses plain =
 pub given-refused : (limits : Limits) (delimiter : Delimiter) (text more : List ℕ) (r : EdgeReader) (e : EdgeError) →
     IsGivenUnder limits delimiter text r → EndsLine text → RefusesHeld r e → IsPlain (text ++ more) → Refuses (meaning_under limits delimiter (text ++ more)) e
 given-refused limits delimiter text more r e g ends refuses plain =
-    rw (records-joined (byte_of delimiter) text more ends) (refused-by limits delimiter text r (records (byte_of delimiter) more) e g refuses (plain-front text more ends plain))
+    let (rest, joined) = records-joined (byte_of delimiter) text more ends in
+    rw joined (refused-by limits delimiter text r rest e g refuses (plain-front text more ends plain))
 
 pub given-refused-all : (limits : Limits) (delimiter : Delimiter) (text : List ℕ) (r : EdgeReader) (e : EdgeError) →
     IsGivenUnder limits delimiter text r → RefusesHeld r e → IsPlain text → Refuses (meaning_under limits delimiter text) e

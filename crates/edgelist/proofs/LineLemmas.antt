@@ -1,7 +1,7 @@
 -- What `csv` reads of an edge list's bytes is its records.
 use Rattle.std.proofs.Common.{◌≡◌, ◌∙◌, ◌+◌, ◌≤◌, ℕ, List, [], ◌∷◌, ◌++◌, Bool, true, false, length, arith, refl, sym, ap, append_assoc, inl, inr, map, Some, None, Option}
 use Rattle.std.specs.Prelude.{◌==◌, if◌then◌else◌}
-use Rattle.std.proofs.lemmas.List.{append-nil, length-map}
+use Rattle.std.proofs.lemmas.List.{append-nil, length-drop, length-map}
 use Rattle.std.proofs.lemmas.List.Sums.{length-filter, count_by-le-length}
 use Rattle.std.proofs.lemmas.Bool.{cases_Bool, eqb-true, false≢true}
 use Rattle.std.specs.List.{filter}
@@ -11,7 +11,7 @@ use Rattle.csv.specs.declared.parser.Config.{Config}
 use Rattle.csv.specs.declared.parser.State.{State}
 use Rattle.csv.specs.declared.parser.State.TheVariants as st
 use Rattle.edgelist.specs.Records.{config, rows, is_blank, is_row, EndsAtBlank}
-use Rattle.ball_model.specs.Input.{HasLfs, StartsWithLf, fields, is_record, lines, records}
+use Rattle.ball_model.specs.Input.{HasLfs, StartsWithLf, fields, has_mark, is_record, lines, records, without_mark}
 
 rows-end : (b : Bool) (x : List (List ℕ)) (more : State → List ℕ → List (List (List ℕ))) → more st.StartRecord [] ≡ []
     → (if b then x ∷ [] else []) ≡ records_next more (if b then Some (x, st.StartRecord, []) else None)
@@ -212,8 +212,12 @@ all-records d ((c ∷ l) ∷ (m ∷ ls)) = elim (cases_Bool (35 == c)) [
   | inr e ↦ rw (e, fields-blank d c l) (ap (λ (rs : List (List (List ℕ))). fields d (c ∷ l) ∷ rs) (all-records d (m ∷ ls)))
 ]
 
--- what the machine gives of a plain text: its records, and then at most a blank row
-pub rows-records : (d : ℕ) → IsDelimiter d → (xs : List ℕ) → HasLfs xs → filter is_row (rows (config d) st.StartRecord [] [] xs) ≡ records d xs
+-- the records of some lines, with no mark before them
+abbrev pub line_records : ℕ → List ℕ → List (List (List ℕ))
+line_records d xs = map (fields d) (filter is_record (lines xs))
+
+-- what the machine gives of plain lines: their records, and then at most a blank row
+pub rows-records : (d : ℕ) → IsDelimiter d → (xs : List ℕ) → HasLfs xs → filter is_row (rows (config d) st.StartRecord [] [] xs) ≡ line_records d xs
 rows-records d del xs plain = rw (read-text d del xs plain).0 (all-records d (lines xs))
 
 pub rows-ends : (d : ℕ) → IsDelimiter d → (xs : List ℕ) → HasLfs xs → EndsAtBlank (rows (config d) st.StartRecord [] [] xs)
@@ -235,9 +239,16 @@ lines-few (c ∷ rest) =
       ]
     ]
 
+unmarked-few : (text : List ℕ) → length (without_mark text) ≤ length text
+unmarked-few text = elim (cases_Bool (has_mark text)) [
+  | inl e ↦ rw e (omega (arith, length-drop 3 text))
+  | inr e ↦ rw e (omega arith)
+]
+
 -- and not more records than lines
 pub records-few : (d : ℕ) (text : List ℕ) → length (records d text) ≤ length text + 1
 records-few d text =
-    let all = filter is_record (lines text) in
+    let xs = without_mark text in
+    let all = filter is_record (lines xs) in
     let same : length (map (fields d) all) ≡ length all = simp length-map in
-    omega (arith, same, length-filter is_record (lines text), count_by-le-length is_record (lines text), lines-few text)
+    omega (arith, same, length-filter is_record (lines xs), count_by-le-length is_record (lines xs), lines-few xs, unmarked-few text)

@@ -1,19 +1,19 @@
 -- What of an edge list is read some lines at a time.
-use Rattle.std.proofs.Common.{◌≡◌, ◌∙◌, ◌+◌, ℕ, List, [], ◌∷◌, ◌++◌, false, ◌==◌, arith, ap, refl, sym, subst, append_assoc, inl, inr, length, map, Ok, true}
+use Rattle.std.proofs.Common.{◌≡◌, ◌≢◌, ◌∙◌, ◌+◌, ◌<◌, ◌&&◌, ℕ, Bool, List, [], ◌∷◌, ◌++◌, false, ◌==◌, arith, ap, refl, sym, subst, append_assoc, inl, inr, length, Ok, true}
 use Rattle.std.specs.Prelude.{Option, Result, Err}
 use Rattle.std.specs.List.{filter}
 use Rattle.std.proofs.lemmas.Bool.{cases_Bool}
 use Rattle.std.proofs.lemmas.List.{append-nil, length-append, map-append}
 use Rattle.std.proofs.lemmas.List.Elements.{filter-append}
 use Rattle.csv.specs.declared.reader.Reader.{Reader}
-use Rattle.ball_model.specs.Input.{HasLfs, IsPlain, Limits, Network, Refusal, StartsWithLf, fields, has_mark, is_record, lines, network_from, records}
+use Rattle.ball_model.specs.Input.{HasLfs, IsPlain, Limits, Network, Refusal, StartsWithLf, fields, has_mark, is_record, lines, network_from, records, without_mark}
 use Rattle.edgelist.specs.Pieces.{AddsRecords, EndsLine, IsLeftOf, IsPartRead, IsThrough, ReadsOn}
 use Rattle.edgelist.specs.Records.{FindsNone, IsLeft, ReadsOne, ReadsRecords, StopsAtEnd, config, is_row, rows}
 use Rattle.edgelist.specs.Reading.{AddsRecord, EndsAt, Refuses, Stops, network_by}
 use Rattle.edgelist.specs.declared.edge.Edge.{Edge}
 use Rattle.edgelist.specs.declared.read.EdgeError.{EdgeError}
 use Rattle.edgelist.proofs.FaultLemmas.{clean-more, clean-none, refuses-none, says-network, says-refusal}
-use Rattle.edgelist.proofs.LineLemmas.{lines-some}
+use Rattle.edgelist.proofs.LineLemmas.{line_records, lines-some}
 use Rattle.edgelist.proofs.NetworkLemmas.{read-none}
 
 abbrev Records : Type 0
@@ -186,18 +186,59 @@ lines-joined (c ∷ a) b =
       ]
     ]
 
-pub records-joined : (d : ℕ) (a b : List ℕ) → EndsLine a → records d (a ++ b) ≡ records d a ++ records d b
-unfolding lines
-records-joined d a b (inl e) = rw e refl
-records-joined d a b (inr (f, e)) =
-    let all : lines (a ++ b) ≡ lines f ++ lines b = rw (e, append_assoc f (10 ∷ []) b) (lines-joined f b) in
-    let first : records d a ≡ map (fields d) (filter is_record (lines f)) = rw (e, lines-joined f [], filter-append is_record (lines f) ([] ∷ []), append-nil (filter is_record (lines f))) refl in
-    rw (all, first, filter-append is_record (lines f) (lines b), map-append (fields d) (filter is_record (lines f)) (filter is_record (lines b))) refl
+line-records-joined : (d : ℕ) (a b : List ℕ) → line_records d (a ++ 10 ∷ b) ≡ line_records d a ++ line_records d b
+line-records-joined d a b =
+    rw (lines-joined a b, filter-append is_record (lines a) (lines b), map-append (fields d) (filter is_record (lines a)) (filter is_record (lines b))) refl
 
--- a line that is empty is no record
-pub records-behind : (d : ℕ) (a : List ℕ) → records d (10 ∷ a) ≡ records d a
+-- a mark ends before the first LF
+mark-first : (b : List ℕ) → has_mark (10 ∷ b) ≡ false
+mark-first [] = refl
+mark-first (x ∷ []) = refl
+mark-first (x ∷ y ∷ b) = refl
+
+and-false : (t u : Bool) → (t && false && u) ≡ false
+and-false true u = refl
+and-false false u = refl
+
+and-last : (t : Bool) → (t && false) ≡ false
+and-last true = refl
+and-last false = refl
+
+mark-second : (x : ℕ) (b : List ℕ) → has_mark (x ∷ 10 ∷ b) ≡ false
+mark-second x [] = refl
+mark-second x (y ∷ b) = and-false (x == 239) (y == 191)
+
+mark-third : (x y : ℕ) (b : List ℕ) → has_mark (x ∷ y ∷ 10 ∷ b) ≡ false
+mark-third x y b = and-last ((x == 239) && (y == 187))
+
+-- so it is skipped in the first line alone
+mark-joined : (f : List ℕ) → (g : List ℕ) × ((b : List ℕ) → without_mark (f ++ 10 ∷ b) ≡ g ++ 10 ∷ b)
+mark-joined [] = ([], λ b. rw (mark-first b) refl)
+mark-joined (x ∷ []) = (x ∷ [], λ b. rw (mark-second x b) refl)
+mark-joined (x ∷ y ∷ []) = (x ∷ y ∷ [], λ b. rw (mark-third x y b) refl)
+mark-joined (x ∷ y ∷ z ∷ f) = elim (cases_Bool ((x == 239) && (y == 187) && (z == 191))) [
+  | inl e ↦ (f, λ b. rw e refl)
+  | inr e ↦ (x ∷ y ∷ z ∷ f, λ b. rw e refl)
+]
+
+-- what follows a line has no mark to be skipped
+records-behind : (d : ℕ) (f b : List ℕ) → records d (f ++ 10 ∷ b) ≡ records d (f ++ 10 ∷ []) ++ line_records d b
 unfolding lines
-records-behind d a = refl
+records-behind d f b =
+    let (g, at) = mark-joined f in
+    let none : line_records d g ++ line_records d [] ≡ line_records d g = append-nil (line_records d g) in
+    rw (at b, at [], line-records-joined d g b, line-records-joined d g [], none) refl
+
+-- an empty line is no record
+records-held-behind : (d : ℕ) (b : List ℕ) → records d (10 ∷ b) ≡ line_records d b
+unfolding lines
+records-held-behind d b = rw (mark-first b) refl
+
+-- behind whole lines there are records more
+pub records-joined : (d : ℕ) (a b : List ℕ) → EndsLine a → (rest : Records) × (records d (a ++ b) ≡ records d a ++ rest)
+unfolding lines
+records-joined d a b (inl e) = (records d b, rw e refl)
+records-joined d a b (inr (f, e)) = (line_records d b, rw (e, append_assoc f (10 ∷ []) b) (records-behind d f b))
 
 -- ---- plain pieces
 
@@ -213,31 +254,25 @@ lfs-front : (a b : List ℕ) → HasLfs (a ++ 10 ∷ b) → HasLfs (a ++ 10 ∷ 
 lfs-front [] b h = ((λ e. absurd (cc)), tt)
 lfs-front (c ∷ a) b h = ((λ e. starts-front a b (h.0 e)), lfs-front a b h.1)
 
-mark-front : (a b : List ℕ) → has_mark (a ++ b) ≡ false → has_mark a ≡ false
-mark-front [] b e = refl
-mark-front (x ∷ []) b e = refl
-mark-front (x ∷ y ∷ []) b e = refl
-mark-front (x ∷ y ∷ z ∷ a) b e = e
-
-pub mark-behind : (a : List ℕ) → has_mark (10 ∷ a) ≡ false
-mark-behind [] = refl
-mark-behind (x ∷ []) = refl
-mark-behind (x ∷ y ∷ a) = refl
-
 -- whole lines at the front of a plain text are plain
 pub plain-front : (a b : List ℕ) → EndsLine a → IsPlain (a ++ b) → IsPlain a
-plain-front a b (inl e) p = rw e (record { unmarked = refl; ends = tt })
-plain-front a b (inr (f, e)) p = record {
-  unmarked = mark-front a b p.unmarked;
-  ends = rw e (lfs-front f b (rw (e, append_assoc f (10 ∷ []) b) at p.ends));
-}
+plain-front a b (inl e) p = rw e (record { ends = tt })
+plain-front a b (inr (f, e)) p = record { ends = rw e (lfs-front f b (rw (e, append_assoc f (10 ∷ []) b) at p.ends)) }
 
 -- what is held of a plain text is plain
 pub plain-held : (done left lines : List ℕ) → IsLeftOf done left lines → IsPlain (done ++ left) → IsPlain lines
 plain-held done left lines (inl h) p = rw (h.1) (rw h.0 at p)
-plain-held done left lines (inr h) p = rw h (record { unmarked = mark-behind left; ends = ((λ e. absurd (cc)), lfs-behind done left p.ends) })
+plain-held done left lines (inr h) p = rw (h.1) (record { ends = ((λ e. absurd (cc)), lfs-behind done left p.ends) })
 
 -- and its records are the others
 pub records-held : (d : ℕ) (done left lines : List ℕ) → EndsLine done → IsLeftOf done left lines → records d (done ++ left) ≡ records d done ++ records d lines
-records-held d done left lines ends (inl h) = rw h.1 (records-joined d done left ends)
-records-held d done left lines ends (inr h) = rw (h, records-behind d left) (records-joined d done left ends)
+unfolding lines
+records-held d done left lines ends (inl h) = rw (h.0, h.1) refl
+records-held d done left lines (inl e) (inr h) = absurd (h.0 e)
+records-held d done left lines (inr (f, e)) (inr h) = rw (h.1, records-held-behind d left, e, append_assoc f (10 ∷ []) left) (records-behind d f left)
+
+-- where something is held, something was given
+pub given-some : (done left lines : List ℕ) → IsLeftOf done left lines → 0 < length lines → (done ++ left) ≢ []
+given-some [] left lines (inl h) some = λ none. absurd (omega (arith, some, ap (length {A = ℕ}) h.1, ap (length {A = ℕ}) none))
+given-some [] left lines (inr h) some = λ none. h.0 refl
+given-some (c ∷ done) left lines held some = λ none. cc

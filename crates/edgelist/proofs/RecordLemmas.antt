@@ -1,5 +1,6 @@
 -- What reading one record more leaves.
-use Rattle.std.proofs.Common.{◌≡◌, ◌∙◌, ◌≤◌, ℕ, List, [], ◌∷◌, ◌++◌, Bool, true, false, length, arith, ap, refl, sym, Some, None, Option}
+use Rattle.std.proofs.Common.{◌≡◌, ◌∙◌, ◌≤◌, ℕ, zero, suc, List, [], ◌∷◌, ◌++◌, Bool, true, false, length, drop, arith, ap, refl, sym, inl, inr, Some, None, Option}
+use Rattle.std.proofs.lemmas.Bool.{cases_Bool}
 use Rattle.std.specs.Prelude.{if◌then◌else◌}
 use Rattle.std.specs.List.{filter}
 use Rattle.std.proofs.lemmas.List.{append-nil, append_assoc, length-append}
@@ -9,7 +10,7 @@ use Rattle.csv.specs.declared.reader.Reader.{Reader}
 use Rattle.csv.specs.declared.parser.State.TheVariants as st
 use Rattle.csv.specs.declared.reader.Trim.TheVariants as trim
 use Rattle.csv.proofs.ReadFacts.{rows-end, rows-more}
-use Rattle.ball_model.specs.Input.{HasLfs, has_mark, records}
+use Rattle.ball_model.specs.Input.{HasLfs, has_mark, records, without_mark}
 use Rattle.edgelist.specs.Records.{config, rows, is_blank, is_row, FindsNone, IsLeft}
 use Rattle.edgelist.specs.Reading.{byte_of}
 use Rattle.edgelist.specs.declared.read.Delimiter.{Delimiter}
@@ -21,30 +22,45 @@ is_delimiter delimiter.Tab = (refl, refl, refl)
 is_delimiter delimiter.Comma = (refl, refl, refl)
 is_delimiter delimiter.Space = (refl, refl, refl)
 
--- a text with no byte order mark is read whole
-unmarked_if : (a b c : ℕ) (rest : List ℕ) (t : Bool) → t ≡ false → (if t then rest else a ∷ b ∷ c ∷ rest) ≡ a ∷ b ∷ c ∷ rest
-unmarked_if a b c rest t e = rw e refl
+-- what `csv` skips at the front of a text is the mark
+skips_if : (a b c : ℕ) (rest : List ℕ) (t : Bool) → (if t then rest else a ∷ b ∷ c ∷ rest) ≡ (if t then drop 3 (a ∷ b ∷ c ∷ rest) else a ∷ b ∷ c ∷ rest)
+skips_if a b c rest true = refl
+skips_if a b c rest false = refl
 
-pub unmarked-whole : (text : List ℕ) → has_mark text ≡ false → strip_bom text ≡ text
+pub skips-mark : (text : List ℕ) → strip_bom text ≡ without_mark text
 unfolding strip_bom
-unmarked-whole [] e = refl
-unmarked-whole (a ∷ []) e = refl
-unmarked-whole (a ∷ b ∷ []) e = refl
-unmarked-whole (a ∷ b ∷ c ∷ rest) e = unmarked_if a b c rest _ e
+skips-mark [] = refl
+skips-mark (a ∷ []) = refl
+skips-mark (a ∷ b ∷ []) = refl
+skips-mark (a ∷ b ∷ c ∷ rest) = skips_if a b c rest _
+
+-- what follows a mark is plain
+lfs-drop : (n : ℕ) (text : List ℕ) → HasLfs text → HasLfs (drop n text)
+lfs-drop zero text h = h
+lfs-drop (suc n) [] h = h
+lfs-drop (suc n) (c ∷ rest) h = lfs-drop n rest h.1
+
+lfs-unmarked : (text : List ℕ) → HasLfs text → HasLfs (without_mark text)
+lfs-unmarked text h = elim (cases_Bool (has_mark text)) [
+  | inl e ↦ rw e (lfs-drop 3 text h)
+  | inr e ↦ rw e h
+]
 
 -- nothing was read yet
 pub left-start : {R : Type 0} (rem : R → Option (List ℕ)) (d : ℕ) (text : List ℕ) (rdr : Reader R) → IsDelimiter d → HasLfs text
-    → rdr.trim ≡ trim.None → Ready rdr → rdr.config ≡ config d → is_flexible rdr ≡ true → rdr.state ≡ st.StartRecord → source_of rem rdr ≡ Some text → IsLeft rem d text [] rdr
-left-start rem d text rdr del plain trims ready configured flexible start source = record {
-  trims = trims;
-  ready = ready;
-  configured = configured;
-  flexible = flexible;
-  left = text;
-  source = source;
-  ends = rw start (rows-ends d del text plain);
-  all = rw start (sym (rows-records d del text plain));
-}
+    → rdr.trim ≡ trim.None → Ready rdr → rdr.config ≡ config d → is_flexible rdr ≡ true → rdr.state ≡ st.StartRecord → source_of rem rdr ≡ Some (strip_bom text) → IsLeft rem d text [] rdr
+left-start rem d text rdr del plain trims ready configured flexible start source =
+    let lfs = lfs-unmarked text plain in
+    record {
+      trims = trims;
+      ready = ready;
+      configured = configured;
+      flexible = flexible;
+      left = without_mark text;
+      source = rw (skips-mark text) at source;
+      ends = rw start (rows-ends d del (without_mark text) lfs);
+      all = rw start (sym (rows-records d del (without_mark text) lfs));
+    }
 
 -- no row more: the records so far are all
 pub left-end : {R : Type 0} (rem : R → Option (List ℕ)) (d : ℕ) (text : List ℕ) (past : List (List (List ℕ))) (a b : Reader R) (f : List (List ℕ)) →

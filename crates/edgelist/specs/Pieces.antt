@@ -1,5 +1,5 @@
 -- Records that are read some lines at a time.
-use Rattle.std.specs.Prelude.{◌≡◌, ℕ, ◌+◌, Bool, true, false, List, [], ◌∷◌, ◌++◌, Option, Result, IfOk, IfErr, length, ◌⊎◌}
+use Rattle.std.specs.Prelude.{◌≡◌, ◌≢◌, ℕ, ◌+◌, Bool, true, false, List, [], ◌∷◌, ◌++◌, Option, Result, IfOk, IfErr, length, ◌⊎◌}
 use Rattle.csv.specs.declared.reader.Reader.{Reader}
 use Rattle.edgelist.specs.Records.{IsLeft, StopsAtEnd}
 use Rattle.ball_model.specs.Input.{Limits, network_from, records}
@@ -50,6 +50,7 @@ pub record AddsRecords (limits : Limits) (number : ℕ) (rs : List (List (List �
 abbrev pub EndsLine : List ℕ → Type 0
 EndsLine text = (text ≡ []) ⊎ ((front : List ℕ) × (text ≡ front ++ 10 ∷ []))
 
--- what is held of a text is what follows that which was read, behind an LF where something was read
+-- what is held of a text is what follows that which was read, behind an LF exactly where something was read
 abbrev pub IsLeftOf : List ℕ → List ℕ → List ℕ → Type 0
-IsLeftOf done left lines = ((done ≡ []) × (lines ≡ left)) ⊎ (lines ≡ 10 ∷ left)
+IsLeftOf done left lines =
+    ((done ≡ []) × (lines ≡ left)) ⊎ ((done ≢ []) × (lines ≡ 10 ∷ left))

@@ -621,10 +621,10 @@ fn read_counted<R: CountedRead>(
 
 /// Reads an edge list, and numbers its labels from 0 by first appearance, a record's first field first.
 ///
-/// Lines end in LF or CRLF, and the last may lack its end. Empty lines and lines that begin with `#` are skipped;
-/// every other line is a record. Its fields stand between the delimiter, quotes are ordinary bytes, and nothing is
-/// trimmed. Two fields are an edge from the first to the second, and one field declares a vertex. The limits in
-/// force are never above 2^24 vertices and 2^26 records.
+/// Lines end in LF or CRLF, and the last may lack its end. A byte order mark at the front, empty lines and lines that
+/// begin with `#` are skipped; every other line is a record. Its fields are between the delimiters, quotes are ordinary
+/// bytes, and nothing is trimmed. Two fields are an edge from the first to the second, and one field declares a vertex.
+/// The limits in force are never above 2^24 vertices and 2^26 records.
 ///
 /// The errors are those of the first record where a check fails, in the order `TooManyEdges`, `Fields`,
 /// `TooManyVertices`. `Read` is answered where a call of the reader failed and nowhere else.

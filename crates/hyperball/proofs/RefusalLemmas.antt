@@ -1,10 +1,12 @@
 -- What a fault says of the input that a run read.
 use Rattle.std.proofs.Common.{◌≡◌, ◌∙◌, ℕ, List, false, true, ap, refl, sym, subst}
 use Rattle.std.specs.Prelude.{Option, None, Some, IfSome, option_map}
+use Rattle.ball_model.specs.Input.{IsPlain}
 use Rattle.ball_model.specs.RunText.{ArePlain, Settings}
 use Rattle.ball_model.specs.Sections.{sections_of}
 use Rattle.workers.specs.Options.{run_settings_of}
-use Rattle.workers.specs.Run.{IsRunRefusal}
+use Rattle.edgelist.specs.Records.{ForPlain}
+use Rattle.workers.specs.Run.{IsRunRefusal, RefusesEdges}
 use Rattle.workers.specs.declared.bytes.RunError.{RunError}
 use Rattle.workers.specs.declared.options.RunOptions.{RunOptions}
 use Rattle.hyperball.specs.Refusals.{IsFault, RefusesInput}
@@ -14,11 +16,12 @@ use Rattle.hyperball.specs.declared.serve.RunFault.TheVariants as fault
 
 -- the two sections of an input, of which this error is told
 pub refuses_both : (s : Settings) (input edges first list : List ℕ) (e : RunError) → Some (edges, list) ≡ sections_of input → first ≡ edges →
-    (ArePlain first (Some list) → IsRunRefusal s first (Some list) e) → RefusesInput s true input e
-refuses_both s input edges first list e found is refused = record {
+    (IsPlain first → RefusesEdges s first e) → (ArePlain first (Some list) → IsRunRefusal s first (Some list) e) → RefusesInput s true input e
+refuses_both s input edges first list e found is of_edges refused = record {
   edges = edges;
   list = Some list;
   found = ap (option_map (λ p. (p.0, Some p.1))) (sym found);
+  of_edges = subst (λ l. IsPlain l → RefusesEdges s l e) is of_edges;
   refused = subst (λ l. ArePlain l (Some list) → IsRunRefusal s l (Some list) e) is refused;
 }
 
@@ -33,6 +36,6 @@ told_whole o None bytes seen (fault.Run e) whole same says = (says.0, tt)
 told_whole o (Some input) bytes seen (fault.Run e) whole same says = (says.0, subst (λ l. RefusesInput (run_settings_of o) true l e) (same ∙ whole) says.1)
 
 -- an input without a list, of which this error is told
-pub refuses_edges : (s : Settings) (told : Option (List ℕ)) (e : RunError) → IfSome told (λ input. ArePlain input None → IsRunRefusal s input None e) → IfSome told (λ input. RefusesInput s false input e)
-refuses_edges s None e refused = tt
-refuses_edges s (Some input) e refused = record { edges = input; list = None; found = refl; refused = refused }
+pub refuses_edges : (s : Settings) (told : Option (List ℕ)) (e : RunError) → ForPlain told (λ input. RefusesEdges s input e) → IfSome told (λ input. ArePlain input None → IsRunRefusal s input None e) → IfSome told (λ input. RefusesInput s false input e)
+refuses_edges s None e of_edges refused = tt
+refuses_edges s (Some input) e of_edges refused = record { edges = input; list = None; found = refl; of_edges = of_edges input refl; refused = refused }

@@ -1,6 +1,7 @@
 -- What a fault of a run says of its options and of the input.
 use Rattle.std.specs.Prelude.{◌≡◌, ◌≢◌, ◌<◌, ⊤, ℕ, Bool, List, length, Option, None, Some, IfSome}
 use Rattle.std.specs.Prelude.{Result, Err, MatchResult}
+use Rattle.ball_model.specs.Input.{IsPlain}
 use Rattle.ball_model.specs.RunText.{ArePlain, Settings}
 use Rattle.ball_model.specs.Streams.{Rises}
 use Rattle.edgelist.specs.Reading.{CountsOne}
@@ -11,18 +12,19 @@ use Rattle.hyperball.specs.declared.serve.RunFault.TheVariants as fault
 use Rattle.hyperball.specs.declared.whole.WholeError.{WholeError}
 use Rattle.node.specs.declared.limits.TheConstants.{MOST_BYTES}
 use Rattle.workers.specs.Options.{run_settings_of}
-use Rattle.workers.specs.Run.{IsFaultIn, IsRunRefusal}
+use Rattle.workers.specs.Run.{IsFaultIn, IsRunRefusal, RefusesEdges}
 use Rattle.workers.specs.declared.bytes.RunError.{RunError}
 use Rattle.workers.specs.declared.bytes.RunError.TheVariants as run_fault
 use Rattle.workers.specs.declared.options.RunOptions.{RunOptions}
 
 -- this error is told of the edge list and the list of counted vertices in the input, where these are plain: it comes
--- only where all checks before it passed
+-- only where all checks before it passed; and where the edge list alone is, it says of that what it has to
 pub record RefusesInput (s : Settings) (counted : Bool) (input : List ℕ) (e : RunError) :
     Type 0 where
   pub edges : List ℕ
   pub list : Option (List ℕ)
   pub found : sections_in counted input ≡ Some (edges, list)
+  pub of_edges : IsPlain edges → RefusesEdges s edges e
   pub refused : ArePlain edges list → IsRunRefusal s edges list e
 
 -- what a fault says of the options, and of the input that a reader tells

@@ -1,13 +1,9 @@
-//! What no clause says: reports of runs, printed texts, statuses, and streams that fail. A case is constant data: words,
-//! an input, and what comes of them. What is written and told is compared as it comes, and kept nowhere.
+//! What no clause says, and no run of the program shows: what words are read as, printed texts, and memory and streams that
+//! fail. (`examples/check` tries the rest: reports, answers, faults, help and statuses.) A case is constant data: words, an
+//! input, and what comes of them. What is written and told is compared as it comes, and kept nowhere.
 
-mod estimates;
 mod fakes;
-mod nodes;
-mod progress;
 mod refusals;
-mod runs;
-mod scripts;
 mod streams;
 mod vectors;
 mod words;
@@ -21,6 +17,7 @@ use std::random::RandomSource;
 use std::sync::Wait;
 use std::thread::Threads;
 use std::time::Clock;
+use vectors::{FIRST_END, SECOND_END};
 
 /// All that the program has of its machine.
 trait Host: Abort + AllocGlobal + Clock + RandomSource + Threads + Wait + Sync {}
@@ -64,6 +61,17 @@ vertex,b,11.390942,0.622942,1.605285,208.291557,15
 vertex,c,11.390942,0.311471,0.802642,104.145778,15
 ";
 
+/// Words that ask for the report of two nodes' checkpoints, and what they read.
+const GATHER_BOTH: &str = "hyperball gather --log2m 4 --parts 2";
+
+const BOTH_KEPT: Pieces = &[MARKED, b"part 291\n", FIRST_END, b"part 226\n", SECOND_END];
+
+/// That report.
+const GATHERED: Case = (GATHER_BOTH, BOTH_KEPT, 0, &[REPORT], b"");
+
+/// Words that ask for the version.
+const VERSION: Case = ("hyperball --version", &[], 0, &[b"hyperball 0.1.0\n"], b"");
+
 const RUN: &str = "hyperball run --log2m 4";
 
 const COUNTED: &str = "hyperball run --log2m 4 --counted";
@@ -90,9 +98,8 @@ static OPEN: Flow = Flow {
     told: usize::MAX,
 };
 
-/// How words ended: whether they were served, and told just the lines of progress that are wanted; the status; how many
-/// calls of the reader and the writer failed; what was written; what was told, and the same beside what is told of
-/// refused memory.
+/// How words ended: whether they were served, and told no line of progress; the status; how many calls of the reader and
+/// the writer failed; what was written; what was told, and the same beside what is told of refused memory.
 #[derive(Clone, Copy)]
 struct End {
     served: bool,
@@ -157,11 +164,11 @@ fn served<H: Host>(rt: &H, case: &Case, flow: &Flow, lines: &Lines) -> End {
     }
 }
 
-/// How a case ends over such streams, where these lines of progress are wanted.
-fn end_in<H: Host>(rt: &H, case: &Case, flow: &Flow, wanted: Pieces) -> End {
-    let lines = Lines::new(wanted);
+/// How a case ends over such streams, where no line of progress is told.
+fn end_in<H: Host>(rt: &H, case: &Case, flow: &Flow) -> End {
+    let lines = Lines::new();
     let mut end = served(rt, case, flow, &lines);
-    end.served &= lines.are_told();
+    end.served &= lines.are_none();
     end
 }
 
@@ -182,29 +189,10 @@ fn is_right(case: &Case, end: &End) -> bool {
 
 /// Whether a case ends as it says over such streams.
 fn ends_in<H: Host>(rt: &H, case: &Case, flow: &Flow) -> bool {
-    is_right(case, &end_in(rt, case, flow, &[]))
+    is_right(case, &end_in(rt, case, flow))
 }
 
 /// Whether a case ends as it says.
 fn ends<H: Host>(rt: &H, case: &Case) -> bool {
     ends_in(rt, case, &OPEN)
-}
-
-/// Each of these cases ends as it says.
-fn all_end<H: Host>(rt: &H, cases: &[Case]) {
-    for case in cases {
-        assert!(rt; ends(rt, case), "{}", case.0);
-    }
-}
-
-/// Whether the words of a line end as the case says.
-fn ends_alike<H: Host>(rt: &H, line: &'static str, case: &Case) -> bool {
-    ends(rt, &(line, case.1, case.2, case.3, case.4))
-}
-
-/// The words of each of these lines end as the case says.
-fn all_end_alike<H: Host>(rt: &H, lines: &[&'static str], case: &Case) {
-    for line in lines {
-        assert!(rt; ends_alike(rt, *line, case), "{line}");
-    }
 }

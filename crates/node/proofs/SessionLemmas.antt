@@ -28,7 +28,7 @@ use Rattle.ball_model.specs.WorldLaws.{IsWorldNode}
 use Rattle.ball_model.proofs.HeldLemmas.{closed_held, joined_held, start_held, taken_held}
 use Rattle.checkpoint.specs.declared.error.KeepError.{KeepError}
 use Rattle.checkpoint.specs.declared.error.KeepError.TheVariants as unkept
-use Rattle.checkpoint.specs.Reading.{Ends, IfOkButWant, IsOfBytes, IsRead, IsReplicaSpelling, TellNone, content_form, seal_form, sealed_form}
+use Rattle.checkpoint.specs.Reading.{Ends, IfOkButWant, IsOfBytes, IsRead, IsReplicaSpelling, OnOkOrMemory, TellNone, content_form, seal_form, sealed_form}
 use Rattle.checkpoint.proofs.FormLemmas.{first_fine, second_fine}
 use Rattle.checkpoint.proofs.ReaderLemmas.{followed-err}
 use Rattle.ball_model.specs.Job.{PartValue}
@@ -290,11 +290,11 @@ answered_on (Err y) P is = tt
 
 -- ---- what is read of bytes
 pub form_told : {R : Type 0} (remaining : R → Option (List ℕ)) (failed : R → ℕ) (part : PartValue) (most : ℕ) (old new : R) (bytes : List ℕ) (r : Result State KeepError) → remaining old ≡ Some bytes →
-    OnOk r (Ends remaining failed (sealed_form part) most old new) → OnOk r (IsOk (sealed_form part bytes))
+    OnOkOrMemory r (Ends remaining failed (sealed_form part) most old new) → OnOkOrMemory r (IsOk (sealed_form part bytes))
 form_told remaining failed part most old new bytes (Ok v) is ends = ends.is_form bytes is
-form_told remaining failed part most old new bytes (Err e) is ends = tt
+form_told remaining failed part most old new bytes (Err e) is ends = λ memory. (ends memory).is_form bytes is
 
-pub checkpoint_told : (part : PartValue) (bytes : List ℕ) (r : Result State KeepError) → IfOk r (λ v. v.part ≡ part) → IfOk r IsKeepable → IfOk r (λ v. IsReplicaSpelling v bytes) → OnOk r (IsOk (sealed_form part bytes)) →
+pub checkpoint_told : (part : PartValue) (bytes : List ℕ) (r : Result State KeepError) → IfOk r (λ v. v.part ≡ part) → IfOk r IsKeepable → IfOk r (λ v. IsReplicaSpelling v bytes) → OnOkOrMemory r (IsOk (sealed_form part bytes)) →
     OnOk r (IsNodeCheckpoint part bytes)
 checkpoint_told part bytes (Ok v) own keeps spells form = record { form = form; replica = v; keepable = keeps; part_is = own; spells = spells }
 checkpoint_told part bytes (Err e) own keeps spells form = tt

@@ -131,7 +131,7 @@ pub record AreUnready (j : Job) (left left' : Option (List ℕ)) : Type 0 where
   pub unready : are_ready replicas ≡ false
 
 -- all were read, nothing follows, and they are ready to be reported
-pub record AreReady (j : Job) (left left' : Option (List ℕ)) : Type 0 where
+pub record AreGathered (j : Job) (left left' : Option (List ℕ)) : Type 0 where
   pub replicas : List State
   pub before : ReadsAll j j.plan.parts left left' replicas
   pub end : IsAtEnd left'
@@ -139,7 +139,7 @@ pub record AreReady (j : Job) (left left' : Option (List ℕ)) : Type 0 where
 
 -- memory was refused before the checkpoint of some partition, or where all of it was there, or for the report
 abbrev pub LacksReportRoom : Job → Option (List ℕ) → Option (List ℕ) → Type 0
-LacksReportRoom j left left' = StopsAtPart j left left' fault.Memory ⊎ AreReady j left left'
+LacksReportRoom j left left' = StopsAtPart j left left' fault.Memory ⊎ AreGathered j left left'
 
 -- there is no report of the checkpoints of a job, for this fault; of failed calls nothing is said
 abbrev pub IsNoReport : Job → Option (List ℕ) → Option (List ℕ) → GatherError → Type 0

@@ -14,7 +14,7 @@ ghost use Rattle.ball_model.specs.Steps.{Take, Close};
 ghost use Rattle.ball_model.specs.World.{closed_answer, taken_answer};
 ghost use Rattle.batches.specs.Reading.{batch_at};
 ghost use Rattle.ball_model.specs.Content.{is_new};
-ghost use Rattle.checkpoint.specs.Reading.{HasHead, IsReplicaSpelling, OnOkOrMemory};
+ghost use Rattle.checkpoint.specs.Reading.{HasHead, IsReplicaSpelling, OnOkOrMemory, sealed_form};
 ghost use Rattle.replica.specs.Change.{take_answer};
 ghost use Rattle.replica.specs.Saved.{IsKeepable};
 ghost use Rattle.world.specs.Shows.{Has};
@@ -404,8 +404,9 @@ pub fn read_back(alloc: Global, part: Arc<Part>, bytes: &[u8]) -> Result<Replica
     ensures whole { OnOk result (IsNodeCheckpoint (arc_value part) bytes.now) }
     ensures named { IfErr result (λ e. e ≢ KeepError.Memory →
         IsNoCheckpoint (arc_value part) bytes.now e) }
-    // Memory is refused only after the checks of the fixed fields.
+    // Memory is refused only after the checks of the fixed fields, and only for bytes of the form of a checkpoint.
     ensures front { OnOkOrMemory result (HasHead (arc_value part) bytes.now) }
+    ensures form { OnOkOrMemory result (IsOk (sealed_form (arc_value part) bytes.now)) }
 {
     let mut reader = MemReader::new(bytes, None);
     read_checkpoint(alloc, part, &mut reader)

@@ -36,7 +36,7 @@ pub record CanBeRelayed (shown : List TallyValue) (behind : Option MarkedTallies
   pub each : marks ≡ length shown
 
 -- what is shown is in the own table, and the tallies behind are marked for all that differ from it where it is marked
-pub record AreReady (shown : List TallyValue) (marks : List Bool) (own : List TallyValue)
+pub record AreOwnAgain (shown : List TallyValue) (marks : List Bool) (own : List TallyValue)
     (behind : Option MarkedTallies) : Type 0 where
   pub own_is : own ≡ shown
   pub behind_is : (ahead : List TallyValue) → DifferAt marks shown ahead → AreRelayed ahead behind

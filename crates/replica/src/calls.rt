@@ -1,5 +1,5 @@
 //! A replica: what it knows, and the room in which it goes on. Only its making, `out`, `changed_rows`, `out_of`,
-//! `snapshot` and `merge` take memory.
+//! `snapshot` and `merge` take memory, and `close_by` that of its threads.
 
 ghost use Rattle.std.specs.Prelude.{◌≡◌, ◌≢◌, ◌↔◌, ℕ, ◌<◌, ◌+◌, max, false, OnOk, OnErr, IfOk, Ok, Err};
 ghost use Rattle.std.specs.Arc.{arc_value};

@@ -35,7 +35,8 @@
 //! ```
 //!
 //! Only [`Targets::of`], [`Replica::new`], [`Replica::with_targets`], [`Replica::rebuild`], [`Replica::out`],
-//! [`Replica::changed_rows`], [`Replica::out_of`], [`Replica::snapshot`], [`Replica::merge`] and a join take memory.
+//! [`Replica::changed_rows`], [`Replica::out_of`], [`Replica::snapshot`], [`Replica::merge`] and a join take memory, and
+//! [`Replica::close_by`] that of its threads.
 #![tactic(auto)]
 
 mod calls;

@@ -5,7 +5,7 @@ ghost use Rattle.std.specs.Vec.{vec_capacity};
 ghost use Rattle.ball_model.specs.Figures.{TallyValue};
 ghost use Rattle.figures.specs.Values.{value_of};
 ghost use Rattle.replica.specs.Tables.{AreStepped, CanBeStepped};
-ghost use Rattle.replica.specs.Tallies.{AreEither, AreReady, AreRelayed, CanBeRelayed, DifferAt};
+ghost use Rattle.replica.specs.Tallies.{AreEither, AreOwnAgain, AreRelayed, CanBeRelayed, DifferAt};
 ghost use Rattle.replica.specs.Tallies.{shown_tallies};
 
 use crate::level;
@@ -247,7 +247,7 @@ fn go_on(
 )
     requires { CanBeRelayed (shown_tallies (map value_of own.old.items) out) behind.old
         (length marks.now) }
-    ensures { AreReady (shown_tallies (map value_of own.old.items) out) marks.now
+    ensures { AreOwnAgain (shown_tallies (map value_of own.old.items) out) marks.now
         (map value_of own.new.items) behind.new }
 {
     match out {

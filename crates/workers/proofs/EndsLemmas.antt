@@ -9,7 +9,7 @@ use Rattle.workers.specs.declared.ends.JobError.{JobError}
 use Rattle.workers.specs.declared.node.NodeEnd.{NodeEnd}
 use Rattle.workers.specs.declared.node.NodeEnd.TheVariants as ends
 use Rattle.workers.specs.declared.node.NodeError.{NodeError}
-use Rattle.workers.specs.Ends.{all_lost, done_of, each_has_done, fault_in, fault_of, fault_unless, faults_in, first_done, first_fault, first_some, first_waiting, found_full, is_done, is_lost, lacked_memory, least_lost, least_waiting, no_faults, waited, with_end, with_part}
+use Rattle.workers.specs.Ends.{all_lost, done_of, each_has_done, fault_in, fault_noted, fault_unless, faults_in, first_done, first_fault, first_some, first_waiting, found_full, is_done, is_lost, lacked_memory, least_lost, least_waiting, no_faults, waited, with_end, with_part}
 
 -- ---- tests and options, one behind another
 or_three : (a b c : Bool) → (a || (b || c)) ≡ ((a || b) || c)
@@ -224,7 +224,7 @@ pub done_map : {V : Type 0} (items : V → List (Result NodeEnd NodeError)) (xs 
 done_map items xs = all_map items (λ own. list_any is_done own) xs
 
 pub first_map : {V : Type 0} (items : V → List (Result NodeEnd NodeError)) (xs : List V) → first_fault items xs ≡ first_fault (λ own. own) (map items xs)
-first_map items xs = λ i. fault_of (record {
+first_map items xs = λ i. fault_noted (record {
   lost = lost_map items 0 xs i;
   full = any_map items (λ own. list_any found_full own) xs i;
   memory = any_map items (λ own. list_any lacked_memory own) xs i;

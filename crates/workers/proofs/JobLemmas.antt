@@ -18,7 +18,7 @@ use Rattle.workers.specs.declared.assignment.Assignment.{Assignment}
 use Rattle.workers.specs.Node.{IfDone, IsDone}
 use Rattle.workers.specs.Options.{order_for, orders_for}
 use Rattle.workers.specs.Ends.{done_of, each_has_done, first_done, first_fault, first_some}
-use Rattle.workers.specs.Job.{AreDone, AreEnds, AreNoted, EachAt, HasRun, HasSplit, IsAssigned, IsFirstFault, IsPartEnd, IsPartStarted, KeepsItsOrders}
+use Rattle.workers.specs.Job.{AreDone, AreEnds, AreNoted, EachAt, HasRun, HasSplit, IsAssigned, IsFirstFault, IsNodeEnd, IsPartEnd, IsPartStarted, KeepsItsOrders, job_in}
 use Rattle.workers.proofs.EndsLemmas.{done_map, first_map}
 
 -- ---- lists whose elements have what their places say
@@ -31,6 +31,13 @@ each_is has k [] i d h lt = absurd (omega arith)
 each_is has k (y ∷ ys) zero d h lt = subst (λ (n : ℕ). has n y) (let e : k ≡ k + 0 = omega arith in e) h.0
 each_is has k (y ∷ ys) (suc i) d h lt = subst (λ (n : ℕ). has n (slice_index_or ys i d)) (let e : k + 1 + i ≡ k + suc i = omega arith in e) (each_is has (k + 1) ys i d h.1 (omega (arith, lt)))
 
+-- ---- what a thread promises
+pub assigned_end : (j : Job) (o : RunOptions) (p k : ℕ) (a : Assignment) (r : Result NodeEnd NodeError) → IsAssigned j o p k a →
+    IsNodeEnd (job_in a) a.options.value a.node.part a.node.replica r → IsNodeEnd j o p k r
+assigned_end j o p k a r is end =
+    subst (λ (j : Job). IsNodeEnd j o p k r) is.job (subst (λ (o : RunOptions). IsNodeEnd (job_in a) o p k r) is.options
+    (subst (λ (p : ℕ). IsNodeEnd (job_in a) a.options.value p k r) is.part (subst (λ (k : ℕ). IsNodeEnd (job_in a) a.options.value a.node.part k r) is.replica end)))
+
 -- ---- threads that are joined
 pub record Joining {H : Type 0} (assigned : H → Assignment) (j : Job) (o : RunOptions) (p : ℕ) (rest : List (Option H)) (ends : List (Result NodeEnd NodeError)) : Type 0 where
   pub below : p < j.plan.parts
@@ -40,17 +47,17 @@ pub record Joining {H : Type 0} (assigned : H → Assignment) (j : Job) (o : Run
   pub ran : EachAt (λ k. HasRun j o.entries p (orders_for o p k)) 0 ends
 
 pub joining_more : {H : Type 0} (assigned : H → Assignment) (j : Job) (o : RunOptions) (p : ℕ) (child : Option H) (rest : List (Option H)) (ends : List (Result NodeEnd NodeError)) (r : Result NodeEnd NodeError) → Joining assigned j o p (child ∷ rest) ends →
-    ((k : ℕ) → IfSome child (λ h. IsAssigned j o p k (assigned h)) → KeepsItsOrders j p (orders_for o p k) r) →
-    ((k : ℕ) → p < j.plan.parts → IfSome child (λ h. IsAssigned j o p k (assigned h)) → HasRun j o.entries p (orders_for o p k) r) → Joining assigned j o p rest (ends ++ r ∷ [])
-joining_more assigned j o p child rest ends r h end ran =
+    ((k : ℕ) → p < j.plan.parts → IfSome child (λ h. IsAssigned j o p k (assigned h)) → IsNodeEnd j o p k r) → Joining assigned j o p rest (ends ++ r ∷ [])
+joining_more assigned j o p child rest ends r h end =
     let more : length (ends ++ r ∷ []) ≡ length ends + 1 = length-append ends (r ∷ []) in
     let here : length ends ≡ 0 + length ends = omega arith in
+    let last = subst (λ (k : ℕ). IsNodeEnd j o p k r) here (end (length ends) h.below h.left.0) in
     record {
       below = h.below;
       count = omega (arith, more, h.count);
       left = subst (λ (n : ℕ). EachAt (λ k child. IfSome child (λ h. IsAssigned j o p k (assigned h))) n rest) (sym more) h.left.1;
-      given = each_push (λ k. KeepsItsOrders j p (orders_for o p k)) 0 ends r h.given (subst (λ (k : ℕ). KeepsItsOrders j p (orders_for o p k) r) here (end (length ends) h.left.0));
-      ran = each_push (λ k. HasRun j o.entries p (orders_for o p k)) 0 ends r h.ran (subst (λ (k : ℕ). HasRun j o.entries p (orders_for o p k) r) here (ran (length ends) h.below h.left.0));
+      given = each_push (λ k. KeepsItsOrders j p (orders_for o p k)) 0 ends r h.given last.orders;
+      ran = each_push (λ k. HasRun j o.entries p (orders_for o p k)) 0 ends r h.ran last.ran;
     }
 
 pub record JoiningAll {H V W : Type 0} (assigned : H → Assignment) (items : V → List (Option H)) (own : W → List (Result NodeEnd NodeError)) (j : Job) (o : RunOptions) (rest : List V) (ends : List W) : Type 0 where

@@ -1,6 +1,6 @@
 -- How a node ends, by the fate of its replica.
 use Rattle.std.proofs.Common.{◌≡◌, ◌≢◌, ◌∙◌, ℕ, ◌<◌, [], append-nil, arith, refl, subst, sym}
-use Rattle.std.specs.Prelude.{Option, None, Result, Ok, Err, IfOk, IfErr, OnOk, OnErr}
+use Rattle.std.specs.Prelude.{None, Result, Ok, Err, IfOk, IfErr, OnOk, OnErr}
 use Rattle.ball_model.specs.Caller.{Caller, Extends, IsCaller, IsFull}
 use Rattle.ball_model.specs.Held.{start_holding}
 use Rattle.ball_model.specs.History.{calls_by, entries_of, holding_in, start_history}
@@ -13,69 +13,77 @@ use Rattle.workers.specs.declared.node.NodeError.{NodeError}
 use Rattle.workers.specs.declared.node.NodeError.TheVariants as fault
 use Rattle.workers.specs.declared.node.NodeOrders.{NodeOrders}
 use Rattle.workers.specs.Job.{HasRun, KeepsItsOrders}
-use Rattle.workers.specs.Tie.{AreOfNode, HasCome, HasGone}
+use Rattle.workers.specs.Tie.{AreOfNode, HasPath, IsPath}
 use Rattle.workers.specs.Superstep.{EndsAs, IsFate, end_with}
-use Rattle.workers.proofs.PathLemmas.{gone, gone_nowhere, paths_are_of_nodes}
+use Rattle.workers.proofs.PathLemmas.{gone_nowhere, left, left_by, paths_are_of_nodes, wandered}
 use Rattle.workers.proofs.SeenLemmas.{extends_self}
 
-pub ended : (v : Caller) (p : ℕ) (lose : Option ℕ) (r : State) (f : Result Fate NodeError) (w : Caller) → p < v.seen.job.plan.parts →
-    IfOk f (λ x. IsFate v p lose r x w) →
-    OnOk f (HasCome v p (start_holding v.seen.job.plan p) (holding_in r) w) →
-    OnErr f (HasGone v p (start_holding v.seen.job.plan p) w) →
+pub ended : (v : Caller) (p : ℕ) (orders : NodeOrders) (r : State) (f : Result Fate NodeError) (w : Caller) → p < v.seen.job.plan.parts →
+    IfOk f (λ x. IsFate v p orders r x w) →
+    OnOk f (IsPath orders.keep v p (start_holding v.seen.job.plan p) (holding_in r) w) →
+    OnErr f (HasPath orders.keep v p (start_holding v.seen.job.plan p) w) →
     IfErr f (λ e. e ≡ fault.BookFull → IsFull w) →
-    EndsAs v p lose (end_with f r) w
-ended v p lose r (Ok fate.Done) w below is came left full = record {
-  done = is.1.0;
+    EndsAs v p orders (end_with f r) w
+ended v p orders r (Ok fate.Done) w below is came went full = record {
+  done = is.2;
   told = is.0;
+  kept = is.1;
   lost = tt;
   reached = tt;
-  spared = is.1.1;
+  spared = is.3;
   starved = tt;
   starved_told = tt;
+  starved_kept = tt;
   source = tt;
-  path = gone v w p _ _ came;
+  path = left orders.keep v w p _ _ came;
   came = came;
   full = tt;
   alone = λ one. tt;
 }
-ended v p lose r (Ok (fate.Lost s)) w below is came left full = record {
+ended v p orders r (Ok (fate.Lost s)) w below is came went full = record {
   done = tt;
   told = tt;
+  kept = tt;
   lost = is.0;
   reached = record { held = holding_in r; come = came; superstep = sym is.1 };
   spared = tt;
   starved = tt;
   starved_told = tt;
+  starved_kept = tt;
   source = tt;
-  path = gone v w p _ _ came;
+  path = left orders.keep v w p _ _ came;
   came = tt;
   full = tt;
   alone = λ one. tt;
 }
-ended v p lose r (Ok (fate.Starved s q)) w below is came left full = record {
+ended v p orders r (Ok (fate.Starved s q)) w below is came went full = record {
   done = tt;
   told = tt;
+  kept = tt;
   lost = tt;
   reached = tt;
   spared = tt;
-  starved = is.1.missing;
-  starved_told = is.0;
-  source = (is.1.below, is.1.other);
-  path = gone v w p _ _ came;
+  starved = is.0.1.missing;
+  starved_told = is.0.0;
+  starved_kept = is.1;
+  source = (is.0.1.below, is.0.1.other);
+  path = left orders.keep v w p _ _ came;
   came = tt;
   full = tt;
-  alone = λ one. let low = is.1.below in is.1.other (omega arith);
+  alone = λ one. let low = is.0.1.below in is.0.1.other (omega arith);
 }
-ended v p lose r (Err e) w below is came left full = record {
+ended v p orders r (Err e) w below is came went full = record {
   done = tt;
   told = tt;
+  kept = tt;
   lost = tt;
   reached = tt;
   spared = tt;
   starved = tt;
   starved_told = tt;
+  starved_kept = tt;
   source = tt;
-  path = left;
+  path = went;
   came = tt;
   full = full;
   alone = λ one. tt;
@@ -89,24 +97,26 @@ end_fits (Ok (fate.Starved s q)) r e is fits full = let same = sym is ∙ full i
 end_fits (Err x) r e is fits full = let same : Err x ≡ Err fault.BookFull = sym is ∙ full in fits (cc)
 
 -- where memory was refused before the first call
-pub out_of_memory : (v : Caller) (p : ℕ) (lose : Option ℕ) (e : NodeError) → e ≡ fault.Memory → EndsAs v p lose (Err e) v
-out_of_memory v p lose e is = record {
+pub out_of_memory : (v : Caller) (p : ℕ) (orders : NodeOrders) (e : NodeError) → e ≡ fault.Memory → EndsAs v p orders (Err e) v
+out_of_memory v p orders e is = record {
   done = tt;
   told = tt;
+  kept = tt;
   lost = tt;
   reached = tt;
   spared = tt;
   starved = tt;
   starved_told = tt;
+  starved_kept = tt;
   source = tt;
-  path = gone_nowhere v v p (start_holding v.seen.job.plan p) refl;
+  path = left_by orders.keep v v p (start_holding v.seen.job.plan p) (gone_nowhere v v p (start_holding v.seen.job.plan p) refl);
   came = tt;
   full = λ full. let same = sym is ∙ full in absurd (cc);
   alone = λ one. tt;
 }
 
 -- ---- a run of a node, by what it says at its end
-pub keeps_orders : (v w : Caller) (p : ℕ) (orders : NodeOrders) (r : Result NodeEnd NodeError) → EndsAs v p orders.lose r w →
+pub keeps_orders : (v w : Caller) (p : ℕ) (orders : NodeOrders) (r : Result NodeEnd NodeError) → EndsAs v p orders r w →
     (v.seen.job.plan.parts ≡ 1 → orders.keep ≡ 0 → orders.restart ≡ None → r ≢ Err fault.BookFull) → KeepsItsOrders v.seen.job p orders r
 keeps_orders v w p orders r ends fits = record { done = ends.done; lost = ends.lost; alone = ends.alone; alone_fits = fits }
 
@@ -115,7 +125,7 @@ has_filled limit w (Ok end) is full = tt
 has_filled limit w (Err e) is full = λ same. full same ∙ is
 
 pub has_run : (v w : Caller) (j : Job) (limit p : ℕ) (orders : NodeOrders) (r : Result NodeEnd NodeError) → v.seen.job ≡ j → v.limit ≡ limit → p < v.seen.job.plan.parts → calls_by v.number v.seen ≡ [] → Extends v w →
-    EndsAs v p orders.lose r w → HasRun j limit p orders r
+    EndsAs v p orders r w → HasRun j limit p orders r
 has_run v w j limit p orders r job is below start seen ends = record {
   first = v;
   last = w;
@@ -123,7 +133,7 @@ has_run v w j limit p orders r job is below start seen ends = record {
   start = start;
   seen = seen;
   ends = ends;
-  made = subst (λ (k : Job). AreOfNode k (calls_by v.number w.seen)) job (paths_are_of_nodes v w p (calls_by v.number w.seen) below start ends.path ([], append-nil (calls_by v.number w.seen)));
+  made = subst (λ (k : Job). AreOfNode k (calls_by v.number w.seen)) job (paths_are_of_nodes v w p ends.path.new (calls_by v.number w.seen) below start (wandered orders.keep v w p (start_holding v.seen.job.plan p) ends.path.new ends.path.come) ([], append-nil (calls_by v.number w.seen)));
   full = has_filled limit w r (seen.limit ∙ is) ends.full;
 }
 
@@ -132,7 +142,7 @@ pub never_ran : (j : Job) (entries p : ℕ) (orders : NodeOrders) → p < j.plan
 never_ran j entries p orders below =
     let v : Caller = record { number = 0; limit = 1; seen = start_history j } in
     let legal : IsCaller v = record { legal = tt; fits = omega arith } in
-    let ends : EndsAs v p orders.lose (Err fault.Memory) v = out_of_memory v p orders.lose fault.Memory refl in
+    let ends : EndsAs v p orders (Err fault.Memory) v = out_of_memory v p orders fault.Memory refl in
     record {
       first = v;
       last = v;
@@ -140,6 +150,6 @@ never_ran j entries p orders below =
       start = refl;
       seen = extends_self v legal;
       ends = ends;
-      made = paths_are_of_nodes v v p [] below refl ends.path ([], refl);
+      made = paths_are_of_nodes v v p ends.path.new [] below refl (wandered orders.keep v v p (start_holding v.seen.job.plan p) ends.path.new ends.path.come) ([], refl);
       full = λ same. absurd (cc);
     }

@@ -1,6 +1,7 @@
 -- The path of a node: what it holds, from call to call.
-use Rattle.std.proofs.Common.{◌≡◌, ◌≢◌, ℕ, ◌<◌, false, List, [], ◌∷◌, ◌++◌, refl, sym, ap, ◌∙◌, subst, inl, inr, arith, append_assoc, append-nil}
+use Rattle.std.proofs.Common.{◌≡◌, ◌≢◌, ℕ, ◌<◌, true, false, List, [], ◌∷◌, ◌++◌, refl, sym, ap, ◌∙◌, subst, inl, inr, arith, append_assoc, append-nil}
 use Rattle.std.proofs.lemmas.Bool.{cases_eq}
+use Rattle.std.proofs.lemmas.List.{append_cancel_left}
 use Rattle.std.specs.Prelude.{Result, Ok, Err}
 use Rattle.ball_model.specs.declared.names.BatchName.{BatchName}
 use Rattle.ball_model.specs.declared.names.Taken.{Taken}
@@ -14,7 +15,7 @@ use Rattle.ball_model.specs.Join.{Holding, content_in, holding_of, join_of}
 use Rattle.ball_model.specs.State.{State, StandsFor, content_of}
 use Rattle.ball_model.specs.Steps.{Call, CallAnswer, Take, Close, Took, Closed, start_content, content_after, answers_due, content_after_all}
 use Rattle.ball_model.specs.Held.{start_holding, held_after}
-use Rattle.ball_model.specs.History.{HistoryEvent, History, calls_by, holding_in}
+use Rattle.ball_model.specs.History.{HistoryEvent, Post, Fetch, Keep, Recall, Drop, History, calls_by, holding_in}
 use Rattle.ball_model.specs.Caller.{Caller, Extends, Called, CalledNothing}
 use Rattle.ball_model.proofs.JoinLemmas.{content_back}
 use Rattle.replica.specs.Merged.{Absorbs}
@@ -26,8 +27,10 @@ use Rattle.replica.proofs.KeptLemmas.Kept.{true_named}
 use Rattle.replica.proofs.LevelLemmas.Level.{plan_is, number_is}
 use Rattle.replica.proofs.RunsLemmas.Run.{has_content, made}
 use Rattle.replica.proofs.RunsLemmas.Same.{content_is_one}
-use Rattle.workers.specs.Tie.{Step, Calls, Closes as ClosesUp, StartsAnew, after_board_call, after_step, after_steps, IsOwnName, IsOwnCall, IsOwnStep, AreOwnSteps, SparesLast, AllSpareLast, calls_among, HasCome, HasGone, IsPathTo, Reaches, AreOfNode, IsRunOfWorld, PathsAreOfNodes, ReplicasAreOfRuns}
+use Rattle.workers.specs.Node.{is_kept_at}
+use Rattle.workers.specs.Tie.{Step, Calls, Closes as ClosesUp, StartsAnew, after_board_call, after_step, after_steps, IsOwnName, IsOwnCall, IsOwnStep, AreOwnSteps, SparesLast, AllSpareLast, calls_among, IsKeptAmong, KeepsAsTold, AllKeepAsTold, IsPath, HasPath, HasCome, HasGone, KeptIfTold, HasWandered, Reaches, AreOfNode, IsRunOfWorld, PathsAreOfNodes, ReplicasAreOfRuns}
 use Rattle.workers.proofs.TieLemmas.{histories_are_runs}
+use Rattle.workers.proofs.SeenLemmas.{kept_among_before}
 use Rattle.workers.proofs.SuperstepLemmas.{name_of_true}
 
 -- ---- steps, one list behind another
@@ -53,22 +56,80 @@ calls-append (Calls e ∷ xs) ys = ap (λ (l : List HistoryEvent). e ∷ l) (cal
 calls-append (ClosesUp ∷ xs) ys = calls-append xs ys
 calls-append (StartsAnew ∷ xs) ys = calls-append xs ys
 
+-- ---- keeps
+kept_step : (keep : ℕ) (prev made : List HistoryEvent) (h : Holding) (step : Step) → KeepsAsTold keep made h step → KeepsAsTold keep (prev ++ made) h step
+kept_step keep prev made h (Calls (Post name r)) a = tt
+kept_step keep prev made h (Calls (Fetch name)) a = tt
+kept_step keep prev made h (Calls (Keep c r)) a = a
+kept_step keep prev made h (Calls (Recall p s c)) a = tt
+kept_step keep prev made h (Calls (Drop s)) a = tt
+kept_step keep prev made h ClosesUp a = λ due. kept_among_before h.superstep made prev (a due)
+kept_step keep prev made h StartsAnew a = tt
+
+kept_more : (keep : ℕ) (j : Job) (p : ℕ) (prev made : List HistoryEvent) (h : Holding) (steps : List Step) → AllKeepAsTold keep j p made h steps → AllKeepAsTold keep j p (prev ++ made) h steps
+unfolding AllKeepAsTold
+kept_more keep j p prev made h [] a = tt
+kept_more keep j p prev made h (x ∷ xs) a =
+    let one : List HistoryEvent = calls_among (x ∷ []) in (
+      kept_step keep prev made h x a.0,
+      subst (λ (l : List HistoryEvent). AllKeepAsTold keep j p l (after_step j p h x) xs) (sym (append_assoc prev made one)) (kept_more keep j p prev (made ++ one) (after_step j p h x) xs a.1),
+    )
+
+kept_since : (keep : ℕ) (j : Job) (p : ℕ) (made : List HistoryEvent) (h : Holding) (steps : List Step) → AllKeepAsTold keep j p [] h steps → AllKeepAsTold keep j p made h steps
+kept_since keep j p made h steps a = subst (λ (l : List HistoryEvent). AllKeepAsTold keep j p l h steps) (append-nil made) (kept_more keep j p made [] h steps a)
+
+kept-append : (keep : ℕ) (j : Job) (p : ℕ) (made : List HistoryEvent) (h : Holding) (xs ys : List Step) → AllKeepAsTold keep j p made h xs → AllKeepAsTold keep j p (made ++ calls_among xs) (after_steps j p h xs) ys →
+    AllKeepAsTold keep j p made h (xs ++ ys)
+unfolding after_steps calls_among AllKeepAsTold
+kept-append keep j p made h [] ys a b = subst (λ (l : List HistoryEvent). AllKeepAsTold keep j p l h ys) (append-nil made) b
+kept-append keep j p made h (x ∷ xs) ys a b =
+    let one : List HistoryEvent = calls_among (x ∷ []) in
+    let both : calls_among (x ∷ xs) ≡ one ++ calls_among xs = calls-append (x ∷ []) xs in
+    let at : made ++ calls_among (x ∷ xs) ≡ (made ++ one) ++ calls_among xs = ap (λ (l : List HistoryEvent). made ++ l) both ∙ sym (append_assoc made one (calls_among xs)) in (
+      a.0,
+      kept-append keep j p (made ++ one) (after_step j p h x) xs ys a.1 (subst (λ (l : List HistoryEvent). AllKeepAsTold keep j p l (after_steps j p (after_step j p h x) xs) ys) at b),
+    )
+
 -- ---- one step
+path_nowhere : (keep : ℕ) (v w : Caller) (p : ℕ) (h : Holding) → CalledNothing v w → IsPath keep v p h h w
+unfolding after_steps AreOwnSteps AllSpareLast AllKeepAsTold calls_among
+path_nowhere keep v w p h none = record { steps = []; own = tt; spared = tt; kept = tt; calls = none ∙ sym (append-nil (calls_by v.number v.seen)); held = refl }
+
+pub path_by_call : (keep : ℕ) (v w : Caller) (p : ℕ) (e : HistoryEvent) (h d : Holding) → Called v e w → IsOwnCall v.seen.job h e → after_board_call v.seen.job h e ≡ d → SparesLast h.superstep (Calls e) → KeepsAsTold keep [] h (Calls e) → IsPath keep v p h d w
+unfolding after_steps AreOwnSteps AllSpareLast AllKeepAsTold calls_among
+path_by_call keep v w p e h d called own is spared kept = record { steps = Calls e ∷ []; own = (own, tt); spared = (spared, tt); kept = (kept, tt); calls = called.own; held = is }
+
+path_anew : (keep : ℕ) (v : Caller) (p : ℕ) (h d : Holding) → start_holding v.seen.job.plan p ≡ d → IsPath keep v p h d v
+unfolding after_steps AreOwnSteps AllSpareLast AllKeepAsTold calls_among
+path_anew keep v p h d is = record { steps = StartsAnew ∷ []; own = (tt, tt); spared = (tt, tt); kept = (tt, tt); calls = sym (append-nil (calls_by v.number v.seen)); held = is }
+
 pub come_nowhere : (v w : Caller) (p : ℕ) (h : Holding) → CalledNothing v w → HasCome v p h h w
-unfolding after_steps AreOwnSteps AllSpareLast calls_among
-come_nowhere v w p h none = record { steps = []; own = tt; spared = tt; calls = none ∙ sym (append-nil (calls_by v.number v.seen)); held = refl }
+come_nowhere v w p h none keep = path_nowhere keep v w p h none
 
-pub come_by_call : (v w : Caller) (p : ℕ) (e : HistoryEvent) (h d : Holding) → Called v e w → IsOwnCall v.seen.job h e → after_board_call v.seen.job h e ≡ d → SparesLast h.superstep (Calls e) → HasCome v p h d w
-unfolding after_steps AreOwnSteps AllSpareLast calls_among
-come_by_call v w p e h d called own is spared = record { steps = Calls e ∷ []; own = (own, tt); spared = (spared, tt); calls = called.own; held = is }
-
-pub come_by_close : (v : Caller) (p : ℕ) (h d : Holding) → held_after v.seen.job h Close ≡ d → HasCome v p h d v
-unfolding after_steps AreOwnSteps AllSpareLast calls_among
-come_by_close v p h d is = record { steps = ClosesUp ∷ []; own = (tt, tt); spared = (tt, tt); calls = sym (append-nil (calls_by v.number v.seen)); held = is }
+pub come_by_call : (v w : Caller) (p : ℕ) (e : HistoryEvent) (h d : Holding) → Called v e w → IsOwnCall v.seen.job h e → after_board_call v.seen.job h e ≡ d → SparesLast h.superstep (Calls e) → ((keep : ℕ) → KeepsAsTold keep [] h (Calls e)) → HasCome v p h d w
+come_by_call v w p e h d called own is spared kept keep = path_by_call keep v w p e h d called own is spared (kept keep)
 
 pub come_anew : (v : Caller) (p : ℕ) (h d : Holding) → start_holding v.seen.job.plan p ≡ d → HasCome v p h d v
-unfolding after_steps AreOwnSteps AllSpareLast calls_among
-come_anew v p h d is = record { steps = StartsAnew ∷ []; own = (tt, tt); spared = (tt, tt); calls = sym (append-nil (calls_by v.number v.seen)); held = is }
+come_anew v p h d is keep = path_anew keep v p h d is
+
+-- a close, where the superstep was kept if it was to be
+pub path_close : (keep : ℕ) (v w : Caller) (p : ℕ) (h c d : Holding) → IsPath keep v p h c w → KeptIfTold keep v c.superstep w → held_after v.seen.job c Close ≡ d → IsPath keep v p h d w
+unfolding after_steps AreOwnSteps AllSpareLast AllKeepAsTold calls_among
+path_close keep v w p h c d k told is =
+    let j : Job = v.seen.job in
+    let made : List HistoryEvent = calls_by v.number v.seen in
+    let here : after_steps j p h k.steps ≡ c = k.held in
+    let among : is_kept_at keep c.superstep ≡ true → IsKeptAmong c.superstep (calls_among k.steps) =
+    λ due. let m = told due in subst (IsKeptAmong c.superstep) (append_cancel_left made m.made (calls_among k.steps) (sym m.calls ∙ k.calls)) m.kept in
+    let last : List Step = ClosesUp ∷ [] in
+    record {
+      steps = k.steps ++ last;
+      own = own-append j p h k.steps last k.own (tt, tt);
+      spared = spared-append j p h k.steps last k.spared (tt, tt);
+      kept = kept-append keep j p [] h k.steps last k.kept (subst (λ (x : Holding). AllKeepAsTold keep j p (calls_among k.steps) x last) (sym here) (among, tt));
+      calls = k.calls ∙ ap (λ (l : List HistoryEvent). made ++ l) (sym (calls-append k.steps last ∙ append-nil (calls_among k.steps)));
+      held = after_steps-append j p h k.steps last ∙ (ap (λ (x : Holding). after_steps j p x last) here ∙ is);
+    }
 
 -- ---- what is said where a call is refused
 pub ok_is_no_err : {T E : Type 0} (x : T) (e : E) → ◌≡◌ {A = Result T E} (Ok x) (Err e) → ⊥
@@ -82,29 +143,35 @@ pub err_not_as : {T U E : Type 0} (e f : E) → (◌≡◌ {A = Result T E} (Err
 err_not_as e f h is = h (err_as e f is)
 
 -- ---- one path behind another
-come_on : (j : Job) (n : ℕ) (u v w : Caller) (p : ℕ) (a b c : Holding) (steps : List Step) → u.seen.job ≡ j → u.number ≡ n → HasCome u p a b v →
-    AreOwnSteps j p b steps → AllSpareLast j p b steps → calls_by n w.seen ≡ calls_by n v.seen ++ calls_among steps → after_steps j p b steps ≡ c → HasCome u p a c w
-come_on j n u v w p a b c steps job number h own spared calls held =
-    let here : after_steps u.seen.job p a h.steps ≡ b = h.held in
-    let own_here : AreOwnSteps u.seen.job p (after_steps u.seen.job p a h.steps) steps = subst (λ (d : Holding). AreOwnSteps u.seen.job p d steps) (sym here) (subst (λ (k : Job). AreOwnSteps k p b steps) (sym job) own) in
-    let spared_here : AllSpareLast u.seen.job p (after_steps u.seen.job p a h.steps) steps = subst (λ (d : Holding). AllSpareLast u.seen.job p d steps) (sym here) (subst (λ (k : Job). AllSpareLast k p b steps) (sym job) spared) in
-    let made : calls_by u.number w.seen ≡ calls_by u.number v.seen ++ calls_among steps = subst (λ (k : ℕ). calls_by k w.seen ≡ calls_by k v.seen ++ calls_among steps) (sym number) calls in
-    let end : after_steps u.seen.job p b steps ≡ c = subst (λ (k : Job). after_steps k p b steps ≡ c) (sym job) held in
+path_on : (keep : ℕ) (j : Job) (n : ℕ) (u v w : Caller) (p : ℕ) (a b c : Holding) (steps : List Step) → u.seen.job ≡ j → u.number ≡ n → IsPath keep u p a b v →
+    AreOwnSteps j p b steps → AllSpareLast j p b steps → AllKeepAsTold keep j p [] b steps → calls_by n w.seen ≡ calls_by n v.seen ++ calls_among steps → after_steps j p b steps ≡ c → IsPath keep u p a c w
+path_on keep j n u v w p a b c steps job number h own spared kept calls held =
+    let k : Job = u.seen.job in
+    let here : after_steps k p a h.steps ≡ b = h.held in
+    let own_here : AreOwnSteps k p (after_steps k p a h.steps) steps = subst (λ (d : Holding). AreOwnSteps k p d steps) (sym here) (subst (λ (i : Job). AreOwnSteps i p b steps) (sym job) own) in
+    let spared_here : AllSpareLast k p (after_steps k p a h.steps) steps = subst (λ (d : Holding). AllSpareLast k p d steps) (sym here) (subst (λ (i : Job). AllSpareLast i p b steps) (sym job) spared) in
+    let kept_here : AllKeepAsTold keep k p [] (after_steps k p a h.steps) steps = subst (λ (d : Holding). AllKeepAsTold keep k p [] d steps) (sym here) (subst (λ (i : Job). AllKeepAsTold keep i p [] b steps) (sym job) kept) in
+    let made : calls_by u.number w.seen ≡ calls_by u.number v.seen ++ calls_among steps = subst (λ (m : ℕ). calls_by m w.seen ≡ calls_by m v.seen ++ calls_among steps) (sym number) calls in
+    let end : after_steps k p b steps ≡ c = subst (λ (i : Job). after_steps i p b steps ≡ c) (sym job) held in
     record {
       steps = h.steps ++ steps;
-      own = own-append u.seen.job p a h.steps steps h.own own_here;
-      spared = spared-append u.seen.job p a h.steps steps h.spared spared_here;
+      own = own-append k p a h.steps steps h.own own_here;
+      spared = spared-append k p a h.steps steps h.spared spared_here;
+      kept = kept-append keep k p [] a h.steps steps h.kept (kept_since keep k p (calls_among h.steps) (after_steps k p a h.steps) steps kept_here);
       calls = made
           ∙ (ap (λ (l : List HistoryEvent). l ++ calls_among steps) h.calls
           ∙ (append_assoc (calls_by u.number u.seen) (calls_among h.steps) (calls_among steps) ∙ ap (λ (l : List HistoryEvent). calls_by u.number u.seen ++ l) (sym (calls-append h.steps steps))));
-      held = after_steps-append u.seen.job p a h.steps steps ∙ (ap (λ (d : Holding). after_steps u.seen.job p d steps) here ∙ end);
+      held = after_steps-append k p a h.steps steps ∙ (ap (λ (d : Holding). after_steps k p d steps) here ∙ end);
     }
 
 pub nothing_then : (u v w : Caller) → Extends u v → CalledNothing u v → CalledNothing v w → CalledNothing u w
 nothing_then u v w e a b = subst (λ (n : ℕ). calls_by n w.seen ≡ calls_by n v.seen) e.number b ∙ a
 
+pub path_then : (keep : ℕ) (u v w : Caller) (p : ℕ) (a b c : Holding) → Extends u v → IsPath keep u p a b v → IsPath keep v p b c w → IsPath keep u p a c w
+path_then keep u v w p a b c e h k = path_on keep v.seen.job v.number u v w p a b c k.steps (sym e.begins.job) (sym e.number) h k.own k.spared k.kept k.calls k.held
+
 pub come_then : (u v w : Caller) (p : ℕ) (a b c : Holding) → Extends u v → HasCome u p a b v → HasCome v p b c w → HasCome u p a c w
-come_then u v w p a b c e h k = come_on v.seen.job v.number u v w p a b c k.steps (sym e.begins.job) (sym e.number) h k.own k.spared k.calls k.held
+come_then u v w p a b c e h k keep = path_then keep u v w p a b c e (h keep) (k keep)
 
 -- where the caller made no call since
 pub come_past : (u v w : Caller) (p : ℕ) (a b : Holding) → Extends u v → HasCome u p a b v → CalledNothing v w → HasCome u p a b w
@@ -118,6 +185,15 @@ gone v w p a b h = record { new = b; come = h }
 
 pub gone_nowhere : (v w : Caller) (p : ℕ) (h : Holding) → CalledNothing v w → HasGone v p h w
 gone_nowhere v w p h none = gone v w p h h (come_nowhere v w p h none)
+
+pub left : (keep : ℕ) (v w : Caller) (p : ℕ) (a b : Holding) → IsPath keep v p a b w → HasPath keep v p a w
+left keep v w p a b h = record { new = b; come = h }
+
+pub left_by : (keep : ℕ) (v w : Caller) (p : ℕ) (h : Holding) → HasGone v p h w → HasPath keep v p h w
+left_by keep v w p h g = record { new = g.new; come = g.come keep }
+
+pub left_then : (keep : ℕ) (u v w : Caller) (p : ℕ) (a b : Holding) → Extends u v → IsPath keep u p a b v → HasPath keep v p b w → HasPath keep u p a w
+left_then keep u v w p a b e h k = record { new = k.new; come = path_then keep u v w p a b k.new e h k.come }
 
 -- ---- what a replica holds
 held_as : (j : Job) (p : ℕ) (c : Content) (v : State) → HasContent j p c v → holding_in v ≡ holding_of j.plan p c
@@ -213,12 +289,16 @@ of_node j p made below f = record {
 }
 
 pub paths_are_of_nodes : PathsAreOfNodes
-paths_are_of_nodes v w p made below none path begins =
-    let all : calls_by v.number w.seen ≡ calls_among path.come.steps = path.come.calls ∙ ap (λ (l : List HistoryEvent). l ++ calls_among path.come.steps) none in
-    of_node v.seen.job p made below (first_steps v.seen.job p (start_holding v.seen.job.plan p) path.come.steps made begins.0 path.come.own (begins.1 ∙ all))
+paths_are_of_nodes v w p held made below none path begins =
+    let all : calls_by v.number w.seen ≡ calls_among path.steps = path.calls ∙ ap (λ (l : List HistoryEvent). l ++ calls_among path.steps) none in
+    of_node v.seen.job p made below (first_steps v.seen.job p (start_holding v.seen.job.plan p) path.steps made begins.0 path.own (begins.1 ∙ all))
+
+-- the calls of a node that keeps as it is told are a node's
+pub wandered : (keep : ℕ) (v w : Caller) (p : ℕ) (old new : Holding) → IsPath keep v p old new w → HasWandered v p old new w
+wandered keep v w p old new path = record { steps = path.steps; own = path.own; spared = path.spared; calls = path.calls; held = path.held }
 
 -- the steps of a caller that came to a replica, in a history of its job with all its calls
-came_in : (h : History) (v w : Caller) (p : ℕ) (r : State) → p < h.job.plan.parts → v.seen.job ≡ h.job → calls_by v.number v.seen ≡ [] → (path : IsPathTo v p r w) → calls_by v.number h ≡ calls_by v.number w.seen →
+came_in : (h : History) (v w : Caller) (p : ℕ) (r : State) → p < h.job.plan.parts → v.seen.job ≡ h.job → calls_by v.number v.seen ≡ [] → (path : HasWandered v p (start_holding v.seen.job.plan p) (holding_in r) w) → calls_by v.number h ≡ calls_by v.number w.seen →
     Reaches h.job p (calls_by v.number h) path.steps (holding_in r)
 came_in h v w p r below job none path made = record {
   below = below;

@@ -1,6 +1,6 @@
 -- What a run's refusals say, step by step.
 use Rattle.std.proofs.Common.{◌≡◌, ◌≢◌, ◌∙◌, ℕ, List, ap, nat_lt, refl, subst, sym}
-use Rattle.std.specs.Prelude.{Option, None, Some, Result, Ok, Err, IfOk, IfErr, IfSome, OnOk, ◌||◌}
+use Rattle.std.specs.Prelude.{Option, None, Some, Result, Ok, Err, IfOk, IfErr, IfSome, IsOk, OnOk, ◌||◌}
 use Rattle.std.specs.Io.KnownBytes.{Appends}
 use Rattle.std.specs.Borrow.{Bor}
 use Rattle.ball_model.specs.Graph.{Graph}
@@ -21,7 +21,7 @@ use Rattle.workers.specs.declared.bytes.RunError.TheVariants as fault
 use Rattle.ball_model.specs.Job.{job_of}
 use Rattle.workers.specs.Job.{IsFirstFault}
 use Rattle.workers.specs.Options.{run_numbers_of, run_settings_of}
-use Rattle.workers.specs.Run.{AddsReport, AnswersNetwork, HasFirstFault, IsRunFault, IsRunRefusal, RefusesNetwork, RefusesRead, WherePlain, run_counted_by, job_fault}
+use Rattle.workers.specs.Run.{AddsReport, AnswersNetwork, HasFirstFault, IsRunFault, IsRunRefusal, RefusesEdges, RefusesNetwork, RefusesRead, WherePlain, run_counted_by, job_fault}
 
 -- what holds of plain bytes, and what follows from it
 pub where_weaker : (o : RunOptions) (told : Option (List ℕ)) (counted : Option (Bor (List ℕ))) (P Q : Settings → List ℕ → Option (List ℕ) → Type 0) → ((input : List ℕ) → P (run_settings_of o) input (list_in counted) → Q (run_settings_of o) input (list_in counted)) → WherePlain o told counted P → WherePlain o told counted Q
@@ -70,6 +70,34 @@ reported s input list network (Err e) h read = tt
 pub refused : (s : Settings) (input : List ℕ) (list : Option (List ℕ)) (network : Network) (r : Result (List ℕ) RunError) → AnswersNetwork s.numbers network r → AreRead s input list network → IfErr r (IsRunRefusal s input list)
 refused s input list network (Ok text) h read = tt
 refused s input list network (Err e) h read = refuses_network s input list network e read h
+
+-- whatever is refused over a network that was read, there was one
+later_edge : (s : Settings) (n : Numbers) (input : List ℕ) (network : Network) (e : RunError) → RefusesNetwork n network e → IsOk (network_in s input) → RefusesEdges s input e
+later_edge s n input network fault.Options h ok = tt
+later_edge s n input network (fault.Edges e) h ok = absurd h
+later_edge s n input network (fault.Counted e) h ok = ok
+later_edge s n input network (fault.Plan e) h ok = ok
+later_edge s n input network (fault.PartitionLost p) h ok = ok
+later_edge s n input network fault.BookFull h ok = ok
+later_edge s n input network fault.Memory h ok = ok
+later_edge s n input network (fault.Starved node r q) h ok = ok
+later_edge s n input network fault.Write h ok = ok
+
+pub later_edges : (s : Settings) (n : Numbers) (told : Option (List ℕ)) (network : Network) (r : Result (List ℕ) RunError) → AnswersNetwork n network r → ForPlain told (λ input. IsOk (network_in s input)) → ForPlain told (λ input. IfErr r (RefusesEdges s input))
+later_edges s n told network (Ok text) h ok input is plain = tt
+later_edges s n told network (Err e) h ok input is plain = later_edge s n input network e h (ok input is plain)
+
+pub listed_edges : {T : Type 0} (s : Settings) (told : Option (List ℕ)) (r : Result T RunError) → ForPlain told (λ input. IsOk (network_in s input)) → ForPlain told (λ input. OnOk r (IsOk (network_in s input)))
+listed_edges s told (Ok x) ok input is plain = ok input is plain
+listed_edges s told (Err e) ok input is plain = tt
+
+-- where there is a network
+pub read_edges : (s : Settings) (told : Option (List ℕ)) (all : Network) → ForPlain told (λ input. network_in s input ≡ Ok all) → ForPlain told (λ input. IsOk (network_in s input))
+read_edges s told all read input is plain = rw (read input is plain) refl
+
+pub unwritten_edges : {T : Type 0} (s : Settings) (told : Option (List ℕ)) (r : Result T RunError) → ForPlain told (λ input. IsOk (network_in s input)) → IfErr r (λ e. e ≡ fault.Write) → ForPlain told (λ input. IfErr r (RefusesEdges s input))
+unwritten_edges s told (Ok x) ok h input is plain = tt
+unwritten_edges s told (Err e) ok h input is plain = subst (RefusesEdges s input) (sym h) (ok input is plain)
 
 pub never_write : (n : Numbers) (network : Network) (r : Result (List ℕ) RunError) → AnswersNetwork n network r → IfErr r (λ e. e ≡ fault.Write → ⊥)
 never_write n network (Ok text) h = tt

@@ -1,15 +1,17 @@
 -- What a caller has seen goes on, and so does what is said of it.
-use Rattle.std.proofs.Common.{◌≡◌, ◌≢◌, ℕ, ◌<◌, ◌+◌, inl, inr, arith, List, [], ◌∷◌, ◌++◌, refl, sym, ap, ◌∙◌, subst, append_assoc}
+use Rattle.std.proofs.Common.{◌≡◌, ◌≢◌, ℕ, ◌<◌, ◌+◌, inl, inr, arith, true, List, [], ◌∷◌, ◌++◌, refl, sym, ap, ◌∙◌, subst, append_assoc}
 use Rattle.ball_model.specs.declared.names.BatchName.{BatchName}
 use Rattle.ball_model.specs.declared.history.Posted.{Posted}
 use Rattle.ball_model.specs.Job.{Job}
-use Rattle.ball_model.specs.History.{HistoryEvent, Post, History, Begins, events_by, calls_by}
+use Rattle.ball_model.specs.History.{HistoryEvent, Post, Keep, History, Begins, events_by, calls_by}
+use Rattle.ball_model.specs.Join.{Holding}
 use Rattle.ball_model.specs.Caller.{Caller, IsCaller, Extends, Called}
 use Rattle.ball_model.proofs.HistoryLemmas.{begins_self, begins_trans, events_by-append}
 use Rattle.std.proofs.lemmas.Bool.{cases_eq}
 use Rattle.replica.specs.Sent.{batch_name}
-use Rattle.workers.specs.Node.{WasMissing, HasPosted, HasToldAll}
-use Rattle.workers.specs.Superstep.{WasWaiting, HasStarved}
+use Rattle.workers.specs.Node.{WasMissing, HasPosted, HasToldAll, is_kept_at}
+use Rattle.workers.specs.Superstep.{HasKept, WasWaiting, HasStarved}
+use Rattle.workers.specs.Tie.{IsKeptAmong, HasKeptAt, KeptIfTold}
 
 pub extends_self : (v : Caller) → IsCaller v → Extends v v
 extends_self v h = record { number = refl; limit = refl; begins = begins_self v.seen; legal = h.legal; fits = h.fits }
@@ -68,6 +70,61 @@ told_later u v w s p h e = λ r lt other. posted_later u v w _ (h r lt other) e
 
 pub told_before : (u v w : Caller) (s p : ℕ) → Extends u v → HasToldAll v s p w → HasToldAll u s p w
 told_before u v w s p e h = λ r lt other. posted_before u v w _ e (h r (subst (λ (j : Job). r < j.plan.parts) (sym e.begins.job) lt) other)
+
+-- ---- a keep
+pub kept_by_call : (keep : ℕ) (v w : Caller) (c : Holding) → (is_kept_at keep c.superstep ≡ true → HasKept v c w) → KeptIfTold keep v c.superstep w
+kept_by_call keep v w c kept due =
+    let h : HasKept v c w = kept due in
+    record {
+      made = Keep c h.reply ∷ [];
+      calls = h.called.own;
+      kept = record { before = []; content = c; reply = h.reply; later = []; is = refl; superstep = refl };
+    }
+
+kept_among_later : (s : ℕ) (made more : List HistoryEvent) → IsKeptAmong s made → IsKeptAmong s (made ++ more)
+kept_among_later s made more h =
+    let keep : List HistoryEvent = Keep h.content h.reply ∷ h.later in
+    record {
+      before = h.before;
+      content = h.content;
+      reply = h.reply;
+      later = h.later ++ more;
+      is = ap (λ (l : List HistoryEvent). l ++ more) h.is ∙ append_assoc h.before keep more;
+      superstep = h.superstep;
+    }
+
+pub kept_among_before : (s : ℕ) (made more : List HistoryEvent) → IsKeptAmong s made → IsKeptAmong s (more ++ made)
+kept_among_before s made more h =
+    let keep : List HistoryEvent = Keep h.content h.reply ∷ h.later in
+    record {
+      before = more ++ h.before;
+      content = h.content;
+      reply = h.reply;
+      later = h.later;
+      is = ap (λ (l : List HistoryEvent). more ++ l) h.is ∙ sym (append_assoc more h.before keep);
+      superstep = h.superstep;
+    }
+
+pub kept_later : (keep s : ℕ) (u v w : Caller) → KeptIfTold keep u s v → Extends v w → KeptIfTold keep u s w
+kept_later keep s u v w k e due =
+    let h : HasKeptAt u s v = k due in
+    let es : List HistoryEvent = events_by u.number e.begins.calls.0 in
+    record {
+      made = h.made ++ es;
+      calls = own_since u.number v.seen w.seen e.begins ∙ (ap (λ (l : List HistoryEvent). l ++ es) h.calls ∙ append_assoc (calls_by u.number u.seen) h.made es);
+      kept = kept_among_later s h.made es h.kept;
+    }
+
+pub kept_before : (keep s : ℕ) (u v w : Caller) → Extends u v → KeptIfTold keep v s w → KeptIfTold keep u s w
+kept_before keep s u v w e k due =
+    let h : HasKeptAt v s w = k due in
+    let es : List HistoryEvent = events_by u.number e.begins.calls.0 in
+    let made : calls_by u.number w.seen ≡ calls_by u.number v.seen ++ h.made = subst (λ (n : ℕ). calls_by n w.seen ≡ calls_by n v.seen ++ h.made) e.number h.calls in
+    record {
+      made = es ++ h.made;
+      calls = made ∙ (ap (λ (l : List HistoryEvent). l ++ h.made) (own_since u.number u.seen v.seen e.begins) ∙ append_assoc (calls_by u.number u.seen) es h.made);
+      kept = kept_among_before s h.made es h.kept;
+    }
 
 -- ---- a name that did not stand
 pub missing_later : (u v w : Caller) (name : BatchName) → WasMissing u name v → Extends v w → WasMissing u name w

@@ -130,12 +130,12 @@ fault_by None false true starved = job.Memory
 fault_by None false false None = job.Memory
 fault_by None false false (Some w) = job.Starved w.node w.superstep w.source
 
-abbrev pub fault_of : Faults → JobError
-fault_of f = fault_by f.lost f.full f.memory f.starved
+abbrev pub fault_noted : Faults → JobError
+fault_noted f = fault_by f.lost f.full f.memory f.starved
 
 -- the first fault of all nodes, by their ends
 abbrev pub first_fault : {V : Type 0} → (V → List (Result NodeEnd NodeError)) → List V → JobError
-first_fault items all = fault_of (faults_in items all)
+first_fault items all = fault_noted (faults_in items all)
 
 -- none where all is done, else that fault
 abbrev pub fault_unless : Bool → JobError → Option JobError

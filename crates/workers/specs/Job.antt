@@ -1,9 +1,10 @@
 -- All nodes of a job: what they are told, and what they say at their ends.
 use Rattle.std.specs.Prelude.{◌≡◌, ◌≢◌, ⊤, ℕ, ◌+◌, ◌*◌, ◌^◌, ◌<◌, ◌≤◌, List, [], ◌∷◌, length, Option, None, is_some, true, false, Result, Err, IfErr, IfOk, IfSome, slice_index_or}
 use Rattle.ball_model.specs.declared.names.NodeId.{NodeId}
+use Rattle.ball_model.specs.declared.plan.TheConstants.{MOST_REPLICAS}
 use Rattle.ball_model.specs.Caller.{Caller, Extends, IsCaller}
 use Rattle.ball_model.specs.History.{calls_by, entries_of}
-use Rattle.ball_model.specs.Job.{Job, PartValue, job_of, part_of}
+use Rattle.ball_model.specs.Job.{IsJob, Job, PartValue, job_of, part_of}
 use Rattle.ball_model.specs.State.{State}
 use Rattle.board.specs.Seats.{BoardView, SeatView, IsAt}
 use Rattle.workers.specs.declared.ends.Faults.{Faults}
@@ -44,7 +45,7 @@ pub record HasRun (j : Job) (entries p : ℕ) (orders : NodeOrders)
   pub job : first.seen.job ≡ j
   pub start : calls_by first.number first.seen ≡ []
   pub seen : Extends first last
-  pub ends : EndsAs first p orders.lose r last
+  pub ends : EndsAs first p orders r last
   pub made : AreOfNode j (calls_by first.number last.seen)
   pub full : IfErr r (λ e. e ≡ fault.BookFull → entries_of last.seen ≡ entries)
 
@@ -52,8 +53,14 @@ pub record HasRun (j : Job) (entries p : ℕ) (orders : NodeOrders)
 abbrev pub signed_job : Job → List ℕ → Job
 signed_job j digest = record { graph = j.graph; plan = record j.plan { job = digest } }
 
--- the part of each partition, where there was memory for it
-pub record AreParts {E : Type 0} (j : Job) (parts : List (Result PartValue E)) : Type 0 where
+-- the part of each partition
+pub record AreParts (j : Job) (parts : List PartValue) : Type 0 where
+  pub count : length parts ≡ j.plan.parts
+  pub each : (p : ℕ) (d : PartValue) → p < j.plan.parts →
+      slice_index_or parts p d ≡ part_of j p
+
+-- the same, where there was memory for each
+pub record AreMade {E : Type 0} (j : Job) (parts : List (Result PartValue E)) : Type 0 where
   pub count : length parts ≡ j.plan.parts
   pub each : (p : ℕ) (d : Result PartValue E) → p < j.plan.parts →
       IfOk (slice_index_or parts p d) (λ part. part ≡ part_of j p)
@@ -70,16 +77,34 @@ pub record HasSplit (b : BoardView) (j : Job) (splits : ℕ) (s : SeatView) : Ty
   pub least : 2 ^ 63 ≤ s.room + splits * 2 ^ 53
   pub most : s.room ≤ 2 ^ 63
 
--- the job of a node that is told so
-abbrev pub job_in : Assignment → Job
-job_in assigned = job_of assigned.graph.value.graph assigned.plan
+-- what the threads of a run share: its board, its job and what is asked of it
+pub record CrewView : Type 0 where
+  pub board : BoardView
+  pub job : Job
+  pub options : RunOptions
 
--- what is told to node k of partition p
+-- a board of a job's run of which so much is asked
+pub record IsCrew (b : BoardView) (j : Job) (o : RunOptions) : Type 0 where
+  pub job : IsJob j
+  pub few : o.replicas ≤ MOST_REPLICAS
+  pub entries : o.entries ≡ b.limit
+
+-- what is known of the end of node k of partition p
+pub record IsNodeEnd (j : Job) (o : RunOptions) (p k : ℕ) (r : Result NodeEnd NodeError) : Type 0
+  where
+    pub orders : KeepsItsOrders j p (orders_for o p k) r
+    pub ran : HasRun j o.entries p (orders_for o p k) r
+
+-- the job of an assigned node
+abbrev pub job_in : Assignment → Job
+job_in assigned = job_of assigned.graph.value.graph assigned.plan.value
+
+-- node k of partition p
 pub record IsAssigned (j : Job) (o : RunOptions) (p k : ℕ) (assigned : Assignment) : Type 0 where
   pub job : job_in assigned ≡ j
+  pub options : assigned.options.value ≡ o
   pub part : assigned.node.part ≡ p
-  pub orders : assigned.orders ≡ orders_for o p k
-  pub entries : assigned.entries ≡ o.entries
+  pub replica : assigned.node.replica ≡ k
 
 -- the ends of the nodes of partition p
 pub record IsPartEnd (j : Job) (o : RunOptions) (p : ℕ)

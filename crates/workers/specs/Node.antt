@@ -1,5 +1,5 @@
 -- How a node of a run ends, and what its caller has then seen.
-use Rattle.std.specs.Prelude.{◌≡◌, ◌≢◌, ⊤, ℕ, ◌<◌, ◌≤◌, false, List, ◌∷◌, ◌++◌, Option, None, Some}
+use Rattle.std.specs.Prelude.{◌≡◌, ◌≢◌, ⊤, ℕ, ◌<◌, ◌≤◌, ◌%◌, ◌==◌, ◌&&◌, Bool, not, false, List, ◌∷◌, ◌++◌, Option, None, Some}
 use Rattle.ball_model.specs.declared.names.BatchName.{BatchName}
 use Rattle.ball_model.specs.declared.history.Posted.{Posted}
 use Rattle.ball_model.specs.PlanValue.{mixing_of}
@@ -26,6 +26,10 @@ node_error board.Memory = fault.Memory
 abbrev pub FallsDue : Option ℕ → ℕ → Type 0
 FallsDue None s = ⊥
 FallsDue (Some at) s = at ≤ s
+
+-- at superstep s a snapshot is kept, where one is every so many supersteps
+abbrev pub is_kept_at : ℕ → ℕ → Bool
+is_kept_at every s = not (every == 0) && (s % every == 0)
 
 -- at some moment since then the name did not stand
 pub record WasMissing (v : Caller) (name : BatchName) (w : Caller) : Type 0 where

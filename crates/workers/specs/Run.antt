@@ -1,5 +1,5 @@
 -- A run: what is asked of it, and what its refusals say of the input.
-use Rattle.std.specs.Prelude.{◌≡◌, ⊤, ℕ, false, List, Option, Result, Ok, Err, IfSome}
+use Rattle.std.specs.Prelude.{◌≡◌, ⊤, ℕ, false, List, Option, Result, Ok, Err, IfSome, IsOk}
 use Rattle.std.specs.Prelude.{MatchResult}
 use Rattle.std.specs.Borrow.{Bor}
 use Rattle.ball_model.specs.Input.{Network}
@@ -83,6 +83,18 @@ IsRunRefusal s input list fault.BookFull = IsRunPlanned s input list
 IsRunRefusal s input list fault.Memory = IsRunPlanned s input list
 IsRunRefusal s input list (fault.Starved node r q) = IsRunPlanned s input list
 IsRunRefusal s input list fault.Write = IsRunPlanned s input list
+
+-- what a refusal says of the edge list, whatever the list of counted vertices is
+abbrev pub RefusesEdges : Settings → List ℕ → RunError → Type 0
+RefusesEdges s input fault.Options = ⊤
+RefusesEdges s input (fault.Edges e) = Refuses (network_in s input) e
+RefusesEdges s input (fault.Counted e) = IsOk (network_in s input)
+RefusesEdges s input (fault.Plan e) = IsOk (network_in s input)
+RefusesEdges s input (fault.PartitionLost p) = IsOk (network_in s input)
+RefusesEdges s input fault.BookFull = IsOk (network_in s input)
+RefusesEdges s input fault.Memory = IsOk (network_in s input)
+RefusesEdges s input (fault.Starved node r q) = IsOk (network_in s input)
+RefusesEdges s input fault.Write = IsOk (network_in s input)
 
 -- what a refusal says of the network, as far as it was read
 abbrev pub RefusesRead : Settings → List ℕ → Option (List ℕ) → RunError → Type 0

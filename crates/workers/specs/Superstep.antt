@@ -1,5 +1,5 @@
 -- A superstep of a node, and how the node's replica fares.
-use Rattle.std.specs.Prelude.{◌≡◌, ◌≢◌, ⊤, ℕ, ◌<◌, ◌-◌, ◌%◌, ◌==◌, ◌&&◌, ◌⊎◌, Bool, not, max, Option, None, Some, Result, Ok, Err, IfErr, IfOk}
+use Rattle.std.specs.Prelude.{◌≡◌, ◌≢◌, ⊤, ℕ, ◌<◌, ◌-◌, ◌⊎◌, max, Option, None, Some, Result, Ok, Err, IfErr, IfOk}
 use Rattle.ball_model.specs.Job.{IsJob, Job, PartValue, part_of}
 use Rattle.ball_model.specs.State.{State, StandsFor}
 use Rattle.ball_model.specs.Caller.{Called, CalledNothing, Caller, IsFull}
@@ -15,12 +15,13 @@ use Rattle.workers.specs.declared.node.NodeEnd.{NodeEnd}
 use Rattle.workers.specs.declared.node.NodeEnd.TheVariants as ends
 use Rattle.workers.specs.declared.node.NodeError.{NodeError}
 use Rattle.workers.specs.declared.node.NodeError.TheVariants as fault
+use Rattle.workers.specs.declared.node.NodeOrders.{NodeOrders}
 use Rattle.workers.specs.declared.superstep.Found.{Found}
 use Rattle.workers.specs.declared.superstep.Found.TheVariants as found
 use Rattle.workers.specs.declared.superstep.SuperstepEnd.{SuperstepEnd}
 use Rattle.workers.specs.declared.superstep.SuperstepEnd.TheVariants as superstep_end
 use Rattle.workers.specs.Node.{FallsDue, HasToldAll, IfDone, IfLost, IfStarved, IsDone, WasMissing}
-use Rattle.workers.specs.Tie.{HasReached, IsNodePath, IsPathTo}
+use Rattle.workers.specs.Tie.{HasReached, IsNodePath, IsPathTo, KeptIfTold}
 
 -- the replica stands for partition p of the caller's job, at its superstep
 abbrev pub StandsIn : Caller → ℕ → State → Type 0
@@ -61,11 +62,12 @@ IsSuperstepEnd v p r superstep_end.Over w = HasToldAll v r.superstep p w × Ends
 IsSuperstepEnd v p r (superstep_end.Starved q) w = HasStarved v r.superstep q p w
 
 -- what a fate says of the replica, as it is then
-abbrev pub IsFate : Caller → ℕ → Option ℕ → State → Fate → Caller → Type 0
-IsFate v p lose r fate.Done w =
-    HasToldAll v r.superstep p w × (IsDone v.seen.job p r × (FallsDue lose r.superstep → ⊥))
-IsFate v p lose r (fate.Lost s) w = FallsDue lose s × (s ≡ r.superstep)
-IsFate v p lose r (fate.Starved s q) w = HasStarved v s q p w
+abbrev pub IsFate : Caller → ℕ → NodeOrders → State → Fate → Caller → Type 0
+IsFate v p orders r fate.Done w =
+    HasToldAll v r.superstep p w × KeptIfTold orders.keep v r.superstep w
+    × IsDone v.seen.job p r × (FallsDue orders.lose r.superstep → ⊥)
+IsFate v p orders r (fate.Lost s) w = FallsDue orders.lose s × (s ≡ r.superstep)
+IsFate v p orders r (fate.Starved s q) w = HasStarved v s q p w × KeptIfTold orders.keep v s w
 
 -- how a node ends by a fate that is not to reach the end of the run
 abbrev pub early_end : Fate → Option NodeEnd
@@ -79,10 +81,6 @@ end_with (Ok fate.Done) r = Ok (ends.Done r)
 end_with (Ok (fate.Lost s)) r = Ok (ends.Lost s)
 end_with (Ok (fate.Starved s q)) r = Ok (ends.Starved s q)
 end_with (Err e) r = Err e
-
--- at superstep s a snapshot is kept, where one is every so many supersteps
-abbrev pub is_kept_at : ℕ → ℕ → Bool
-is_kept_at every s = not (every == 0) && (s % every == 0)
 
 -- the caller kept that content, and made no other call
 pub record HasKept (v : Caller) (content : Holding) (w : Caller) : Type 0 where
@@ -104,18 +102,20 @@ pub record HasRecalled (v : Caller) (p least before now : ℕ) (w : Caller) : Ty
 abbrev pub IsAnew : Caller → ℕ → ℕ → Caller → Type 0
 IsAnew v p now w = (now ≡ 0) ⊎ HasRecalled v p 0 0 now w
 
--- what the end of a node of partition p says, where the order to be lost is `lose`
-pub record EndsAs (v : Caller) (p : ℕ) (lose : Option ℕ) (e : Result NodeEnd NodeError)
+-- what the end of a node of partition p says, which was told so
+pub record EndsAs (v : Caller) (p : ℕ) (orders : NodeOrders) (e : Result NodeEnd NodeError)
     (w : Caller) : Type 0 where
   pub done : IfOk e (λ end. IfDone end (IsDone v.seen.job p))
   pub told : IfOk e (λ end. IfDone end (λ r. HasToldAll v r.superstep p w))
-  pub lost : IfOk e (λ end. IfLost end (FallsDue lose))
-  pub reached : IfOk e (λ end. IfLost end (λ s. HasReached v p s w))
-  pub spared : IfOk e (λ end. IfDone end (λ r. FallsDue lose r.superstep → ⊥))
+  pub kept : IfOk e (λ end. IfDone end (λ r. KeptIfTold orders.keep v r.superstep w))
+  pub lost : IfOk e (λ end. IfLost end (FallsDue orders.lose))
+  pub reached : IfOk e (λ end. IfLost end (λ s. HasReached orders.keep v p s w))
+  pub spared : IfOk e (λ end. IfDone end (λ r. FallsDue orders.lose r.superstep → ⊥))
   pub starved : IfOk e (λ end. IfStarved end (λ s q. WasMissing v (batch_name s q p) w))
   pub starved_told : IfOk e (λ end. IfStarved end (λ s q. HasToldAll v s p w))
+  pub starved_kept : IfOk e (λ end. IfStarved end (λ s q. KeptIfTold orders.keep v s w))
   pub source : IfOk e (λ end. IfStarved end (λ s q. (q < v.seen.job.plan.parts) × (q ≢ p)))
-  pub path : IsNodePath v p w
-  pub came : IfOk e (λ end. IfDone end (λ r. IsPathTo v p r w))
+  pub path : IsNodePath orders.keep v p w
+  pub came : IfOk e (λ end. IfDone end (λ r. IsPathTo orders.keep v p r w))
   pub full : IfErr e (λ e. e ≡ fault.BookFull → IsFull w)
   pub alone : v.seen.job.plan.parts ≡ 1 → IfOk e (λ end. IfStarved end (λ s q. ⊥))

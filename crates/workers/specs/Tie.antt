@@ -1,7 +1,8 @@
 -- The tie of a board's history to a world: what a node does at its board is what a node of a world does.
-use Rattle.std.specs.Prelude.{◌≡◌, ◌≢◌, ⊤, ℕ, ◌<◌, List, [], ◌∷◌, ◌++◌, Some, option_map, if◌then◌else◌}
+use Rattle.std.specs.Prelude.{◌≡◌, ◌≢◌, ⊤, ℕ, ◌<◌, true, List, [], ◌∷◌, ◌++◌, Some, option_map, if◌then◌else◌}
 use mathlib.Core.List.{IsPrefix}
 use Rattle.ball_model.specs.declared.names.BatchName.{BatchName}
+use Rattle.ball_model.specs.declared.history.Kept.{Kept}
 use Rattle.ball_model.specs.declared.names.NodeId.{NodeId}
 use Rattle.ball_model.specs.declared.world.Event.{Event as Happening}
 use Rattle.ball_model.specs.Job.{Job}
@@ -12,6 +13,7 @@ use Rattle.ball_model.specs.Held.{start_holding, held_after}
 use Rattle.ball_model.specs.History.{HistoryEvent, Post, Fetch, Keep, Recall, Drop, Entry, History, IsLegal, calls_by, is_new_post, holding_in}
 use Rattle.ball_model.specs.Caller.{Caller}
 use Rattle.ball_model.specs.World.{World, start_world, node_at, run_of}
+use Rattle.workers.specs.Node.{is_kept_at}
 
 -- a step of a node: a call of its board, with what it makes of the answer; a close of its superstep; a start anew,
 -- with nothing of what it held
@@ -88,32 +90,85 @@ calls_among (Calls e ∷ steps) = e ∷ calls_among steps
 calls_among (Closes ∷ steps) = calls_among steps
 calls_among (StartsAnew ∷ steps) = calls_among steps
 
+-- among the calls is a keep of a content of superstep s
+pub record IsKeptAmong (s : ℕ) (made : List HistoryEvent) : Type 0 where
+  pub before : List HistoryEvent
+  pub content : Holding
+  pub reply : Kept
+  pub later : List HistoryEvent
+  pub is : made ≡ before ++ Keep content reply ∷ later
+  pub superstep : content.superstep ≡ s
+
+-- a node that has made these calls closes no superstep that is to be kept which it has not kept, and keeps no other
+abbrev pub KeepsAsTold : ℕ → List HistoryEvent → Holding → Step → Type 0
+KeepsAsTold keep made h (Calls (Post name r)) = ⊤
+KeepsAsTold keep made h (Calls (Fetch name)) = ⊤
+KeepsAsTold keep made h (Calls (Keep c r)) = is_kept_at keep h.superstep ≡ true
+KeepsAsTold keep made h (Calls (Recall p least c)) = ⊤
+KeepsAsTold keep made h (Calls (Drop s)) = ⊤
+KeepsAsTold keep made h Closes = is_kept_at keep h.superstep ≡ true → IsKeptAmong h.superstep made
+KeepsAsTold keep made h StartsAnew = ⊤
+
+-- so it is at each of the steps
+unfoldable pub AllKeepAsTold : ℕ → Job → ℕ → List HistoryEvent → Holding → List Step → Type 0
+AllKeepAsTold keep j p made h [] = ⊤
+AllKeepAsTold keep j p made h (step ∷ steps) =
+    KeepsAsTold keep made h step
+    × AllKeepAsTold keep j p (made ++ calls_among (step ∷ [])) (after_step j p h step) steps
+
 -- since then the caller's own calls are those of a node of partition p, which came from one holding to the other
-pub record HasCome (v : Caller) (p : ℕ) (old new : Holding) (w : Caller) : Type 0 where
+pub record HasWandered (v : Caller) (p : ℕ) (old new : Holding) (w : Caller) : Type 0 where
   pub steps : List Step
   pub own : AreOwnSteps v.seen.job p old steps
   pub spared : AllSpareLast v.seen.job p old steps
   pub calls : calls_by v.number w.seen ≡ calls_by v.number v.seen ++ calls_among steps
   pub held : after_steps v.seen.job p old steps ≡ new
 
+-- since then the caller's own calls are those of a node of partition p, which keeps a snapshot as often as it is told
+-- and came from one holding to the other
+pub record IsPath (keep : ℕ) (v : Caller) (p : ℕ) (old new : Holding) (w : Caller) : Type 0 where
+  pub steps : List Step
+  pub own : AreOwnSteps v.seen.job p old steps
+  pub spared : AllSpareLast v.seen.job p old steps
+  pub kept : AllKeepAsTold keep v.seen.job p [] old steps
+  pub calls : calls_by v.number w.seen ≡ calls_by v.number v.seen ++ calls_among steps
+  pub held : after_steps v.seen.job p old steps ≡ new
+
 -- since then the caller's own calls are those of a node of partition p, which had that holding
+pub record HasPath (keep : ℕ) (v : Caller) (p : ℕ) (old : Holding) (w : Caller) : Type 0 where
+  pub new : Holding
+  pub come : IsPath keep v p old new w
+
+-- and it is such a path however often a snapshot is to be kept: by these calls none is kept, and no superstep closed
+abbrev pub HasCome : Caller → ℕ → Holding → Holding → Caller → Type 0
+HasCome v p old new w = (keep : ℕ) → IsPath keep v p old new w
+
 pub record HasGone (v : Caller) (p : ℕ) (old : Holding) (w : Caller) : Type 0 where
   pub new : Holding
   pub come : HasCome v p old new w
 
 -- since then the caller's own calls are those of a node of partition p from its start
-abbrev pub IsNodePath : Caller → ℕ → Caller → Type 0
-IsNodePath v p w = HasGone v p (start_holding v.seen.job.plan p) w
+abbrev pub IsNodePath : ℕ → Caller → ℕ → Caller → Type 0
+IsNodePath keep v p w = HasPath keep v p (start_holding v.seen.job.plan p) w
 
 -- and by them the node came to superstep s
-pub record HasReached (v : Caller) (p s : ℕ) (w : Caller) : Type 0 where
+pub record HasReached (keep : ℕ) (v : Caller) (p s : ℕ) (w : Caller) : Type 0 where
   pub held : Holding
-  pub come : HasCome v p (start_holding v.seen.job.plan p) held w
+  pub come : IsPath keep v p (start_holding v.seen.job.plan p) held w
   pub superstep : held.superstep ≡ s
 
 -- and by them the node came to hold what that replica holds
-abbrev pub IsPathTo : Caller → ℕ → State → Caller → Type 0
-IsPathTo v p r w = HasCome v p (start_holding v.seen.job.plan p) (holding_in r) w
+abbrev pub IsPathTo : ℕ → Caller → ℕ → State → Caller → Type 0
+IsPathTo keep v p r w = IsPath keep v p (start_holding v.seen.job.plan p) (holding_in r) w
+
+-- among the caller's own calls since then is a keep of superstep s, where that is to be kept
+pub record HasKeptAt (v : Caller) (s : ℕ) (w : Caller) : Type 0 where
+  pub made : List HistoryEvent
+  pub calls : calls_by v.number w.seen ≡ calls_by v.number v.seen ++ made
+  pub kept : IsKeptAmong s made
+
+abbrev pub KeptIfTold : ℕ → Caller → ℕ → Caller → Type 0
+KeptIfTold keep v s w = is_kept_at keep s ≡ true → HasKeptAt v s w
 
 -- from its start, by these steps with these calls, a node of partition p comes to hold c
 pub record Reaches (j : Job) (p : ℕ) (made : List HistoryEvent) (steps : List Step)
@@ -188,9 +243,10 @@ HistoriesAreRuns = (replicas : ℕ) (h : History) → 0 < replicas → IsLegal h
 -- the calls of a caller that made none before it ran a node are those of a node; and so are the first ones of them,
 -- which are what a shorter history has
 abbrev pub PathsAreOfNodes : Type 0
-PathsAreOfNodes = (v w : Caller) (p : ℕ) (made : List HistoryEvent) → p < v.seen.job.plan.parts →
-    calls_by v.number v.seen ≡ [] → IsNodePath v p w → IsPrefix made (calls_by v.number w.seen) →
-    AreOfNode v.seen.job made
+PathsAreOfNodes = (v w : Caller) (p : ℕ) (held : Holding) (made : List HistoryEvent) →
+    p < v.seen.job.plan.parts → calls_by v.number v.seen ≡ [] →
+    HasWandered v p (start_holding v.seen.job.plan p) held w →
+    IsPrefix made (calls_by v.number w.seen) → AreOfNode v.seen.job made
 
 -- there is a run of a world with the messages and the copies of the history, in which the node can hold what the
 -- replica holds
@@ -204,6 +260,7 @@ pub record IsOfRun (replicas : ℕ) (h : History) (id : NodeId) (r : State) : Ty
 abbrev pub ReplicasAreOfRuns : Type 0
 ReplicasAreOfRuns = (replicas : ℕ) (h : History) (v w : Caller) (id : NodeId) (r : State) →
     id.replica < replicas → id.part < h.job.plan.parts → IsLegal h → v.seen.job ≡ h.job →
-    calls_by v.number v.seen ≡ [] → IsPathTo v id.part r w →
+    calls_by v.number v.seen ≡ [] →
+    HasWandered v id.part (start_holding v.seen.job.plan id.part) (holding_in r) w →
     calls_by v.number h ≡ calls_by v.number w.seen →
     ((n : ℕ) → n ≢ v.number → AreOfNode h.job (calls_by n h)) → IsOfRun replicas h id r

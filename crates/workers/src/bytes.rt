@@ -1,7 +1,7 @@
 //! A run from bytes to bytes: a thread for each node, and more of them in large supersteps and for the figures.
 
 ghost use Rattle.std.specs.Prelude.{◌≡◌, ◌≢◌, ◌<◌, Ok, Err, true, false, OnOk, OnErr, IfOk, IfErr};
-ghost use Rattle.std.specs.Prelude.{IfSome, length};
+ghost use Rattle.std.specs.Prelude.{IfSome, IsOk, length};
 ghost use Rattle.std.specs.Io.KnownBytes.{Appends, Keeps};
 ghost use Rattle.ball_model.specs.Job.{IsJob, job_of};
 ghost use Rattle.ball_model.specs.Input.{IsPlain, records};
@@ -17,14 +17,14 @@ ghost use Rattle.workers.specs.declared.ends.JobError.{JobError as NodesFault};
 ghost use Rattle.workers.specs.Job.{AreDone, AreParts, IsFaultOf, IsFirstFault};
 ghost use Rattle.workers.specs.Options.{are_in_limits, run_numbers_of, run_settings_of};
 ghost use Rattle.workers.specs.Run.{AddsReport, AnswersNetwork, HasFirstFault, IsFaultIn};
-ghost use Rattle.workers.specs.Run.{IsRunFault, IsRunRefusal, RefusesRead, WherePlain};
-ghost use Rattle.workers.specs.Run.{job_fault, run_counted_by};
+ghost use Rattle.workers.specs.Run.{IsRunFault, IsRunRefusal, RefusesEdges, RefusesRead};
+ghost use Rattle.workers.specs.Run.{WherePlain, job_fault, run_counted_by};
 
 use crate::ends::JobError;
 use crate::gate::Gate;
 use crate::job::run_job;
 use crate::options::RunOptions;
-use crate::planned::{Planned, SharedPart, plan_parts};
+use crate::planned::{Planned, plan_parts};
 use ball_model::{CountedRead, CountedWrite, CountingWriter, NodeId, Plan, PlanError};
 use edgelist::{
     CountedError, EdgeError, EdgeList, Graph, LARGE_LIMITS, LIMITS, read_edge_list,
@@ -195,6 +195,10 @@ fn read_network<T: AllocGlobal, R: CountedRead>(
         (λ s input list. IfOk result (λ read. read.records ≡ length (records s.delimiter input))) }
     ensures refused { WherePlain options.now (R.remaining reader.old) counted.entry
         (λ s input list. IfErr result (RefusesRead s input list)) }
+    ensures edges { ForPlain (R.remaining reader.old) (λ input.
+        OnOk result (IsOk (network_in (run_settings_of options.now) input))) }
+    ensures of_edges { ForPlain (R.remaining reader.old) (λ input.
+        IfErr result (RefusesEdges (run_settings_of options.now) input)) }
     ensures kind { IfErr result (λ e. e ≢ RunError.Write) }
     ensures read { result ≡ Err (RunError.Edges EdgeError.Read) →
         Rises (R.failed_calls reader.old) (R.failed_calls reader.new) }
@@ -255,22 +259,22 @@ fn replicas_text<T: AllocGlobal + Threads + Sync>(
 fn planned_text<T: AllocGlobal + Threads + Wait + Sync, G: Gate + Sync>(
     rt: &T,
     graph: &Graph,
-    plan: &Plan,
-    parts: &mut [SharedPart],
+    planned: Planned,
     options: &RunOptions,
     gate: &G,
 ) -> Result<Pages, JobError>
-    requires job { IsJob (job_of graph.now.graph plan.now) }
-    requires parts { AreParts (job_of graph.now.graph plan.now) parts.old }
+    requires job { IsJob (job_of graph.now.graph planned.plan) }
+    requires parts { AreParts (job_of graph.now.graph planned.plan) planned.parts.items }
     requires limits { are_in_limits options.now ≡ true }
-    ensures ok { IfOk result (λ text. text ≡
-        report_of (mixing_of plan.now) graph.now.graph graph.now.labels plan.now.limit) }
-    ensures fault { IfErr result (IsFaultOf plan.now.parts options.now) }
+    ensures ok { IfOk result (λ text. text ≡ report_of
+        (mixing_of planned.plan) graph.now.graph graph.now.labels planned.plan.limit) }
+    ensures fault { IfErr result (IsFaultOf planned.plan.parts options.now) }
     ensures first { IfErr result (λ e. e ≢ JobError.Memory →
-        IsFirstFault (job_of graph.now.graph plan.now) options.now e) }
+        IsFirstFault (job_of graph.now.graph planned.plan) options.now e) }
 {
-    let replicas = run_job(rt, graph, plan, parts, options, gate)?;
-    let text = replicas_text(rt, graph, plan, &replicas, usize::from(options.threads))?;
+    let plan = planned.plan;
+    let replicas = run_job(rt, graph, planned, options, gate)?;
+    let text = replicas_text(rt, graph, &plan, &replicas, usize::from(options.threads))?;
     Ok(text)
 }
 
@@ -288,8 +292,8 @@ fn report_text<T: AllocGlobal + Threads + Wait + Sync, G: Gate + Sync>(
         HasFirstFault options.now graph.now f }
 {
     let bare = bare_plan_for(graph, options)?;
-    let Planned { plan, mut parts } = plan_parts(rt, graph, &bare)?;
-    let text = planned_text(rt, graph, &plan, &mut parts, options, gate)?;
+    let planned = plan_parts(rt, graph, &bare)?;
+    let text = planned_text(rt, graph, planned, options, gate)?;
     Ok(text)
 }
 
@@ -307,6 +311,10 @@ fn read_text<T: AllocGlobal + Threads + Wait + Sync, R: CountedRead, G: Gate + S
         (λ s input list. IfOk result (IsReport s input list)) }
     ensures refused { WherePlain options.now (R.remaining reader.old) counted.entry
         (λ s input list. IfErr result (IsRunRefusal s input list)) }
+    ensures edges { ForPlain (R.remaining reader.old) (λ input.
+        OnOk result (IsOk (network_in (run_settings_of options.now) input))) }
+    ensures of_edges { ForPlain (R.remaining reader.old) (λ input.
+        IfErr result (RefusesEdges (run_settings_of options.now) input)) }
     ensures kind { IfErr result (λ e. e ≢ RunError.Write) }
     ensures read { result ≡ Err (RunError.Edges EdgeError.Read) →
         Rises (R.failed_calls reader.old) (R.failed_calls reader.new) }
@@ -345,8 +353,8 @@ fn write_text<W: CountedWrite>(writer: &mut W, text: &Pages) -> Result<(), RunEr
 /// With a list of `counted` vertices only those are counted; the list is read after the edge list, and its lines are
 /// as there, one label in each. The report is built in memory and then written, so nothing is written unless the
 /// answer is Ok or `Write`. `Edges(Read)` is answered where a call of the reader failed and nowhere else, `Write` only
-/// where one of the writer did, and nothing is tried again. What is said of the input holds for plain bytes: no byte
-/// order mark at the front, and an LF after each CR.
+/// where one of the writer did. What is said of the input holds for plain bytes: an LF after each CR. (No failed call is
+/// made again: that is written so, and no clause says it.)
 ///
 /// In this order: `Options`, before anything is read; `Edges`, `Counted` and `Plan`; where some partition has no node
 /// that reached the end `PartitionLost`, `BookFull`, `Memory` and `Starved`, the first that the nodes' ends give; then
@@ -372,6 +380,10 @@ pub fn run<T: AllocGlobal + Threads + Wait + Sync, R: CountedRead, W: CountedWri
         (AddsReport W.contents writer.old writer.new)) }
     ensures refused { WherePlain options.now (R.remaining reader.old) counted.entry
         (λ s input list. IfErr result (IsRunRefusal s input list)) }
+    ensures edges { ForPlain (R.remaining reader.old) (λ input.
+        OnOk result (IsOk (network_in (run_settings_of options.now) input))) }
+    ensures of_edges { ForPlain (R.remaining reader.old) (λ input.
+        IfErr result (RefusesEdges (run_settings_of options.now) input)) }
     ensures read { result ≡ Err (RunError.Edges EdgeError.Read) →
         Rises (R.failed_calls reader.old) (R.failed_calls reader.new) }
     ensures failed { CountsOne (R.failed_calls reader.old) (R.failed_calls reader.new) →

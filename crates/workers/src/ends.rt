@@ -8,7 +8,7 @@ ghost use Rattle.ball_model.specs.PlanValue.{most_parts};
 ghost use Rattle.ball_model.specs.declared.plan.TheConstants.{MOST_REPLICAS};
 ghost use Rattle.workers.specs.Job.{AreDone, AreEnds, AreNoted, IsFaultOf, IsPartEnd};
 ghost use Rattle.workers.specs.Job.{IsPartitionLost, KeepsItsOrders};
-ghost use Rattle.workers.specs.Ends.{done_of, each_has_done, fault_in, fault_of, first_done};
+ghost use Rattle.workers.specs.Ends.{done_of, each_has_done, fault_in, fault_noted, first_done};
 ghost use Rattle.workers.specs.Ends.{first_fault, first_some, is_done, is_lost, no_faults, with_end};
 ghost use Rattle.workers.specs.Ends.{with_part};
 ghost use Rattle.workers.specs.Options.{orders_for};
@@ -85,7 +85,7 @@ impl Faults {
     fn first(&self) -> JobError
         ensures fault { (parts : ℕ) (o : Asked) → AreNoted parts o self.now →
             IsFaultOf parts o result }
-        ensures exact { result ≡ fault_of self.now }
+        ensures exact { result ≡ fault_noted self.now }
     {
         if let Some(part) = self.lost {
             return JobError::PartitionLost { part };

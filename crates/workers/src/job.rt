@@ -1,14 +1,12 @@
 //! All nodes of a job: a thread for each, and one board between them.
 
-ghost use Rattle.std.specs.Prelude.{◌≡◌, ◌≢◌, ◌<◌, ◌≤◌, ◌+◌, ◌*◌, ℕ, true, IfOk, IfErr, IfSome};
-ghost use Rattle.std.specs.Prelude.{OnOk, []};
+ghost use Rattle.std.specs.Prelude.{◌≡◌, ◌≢◌, ◌<◌, ◌+◌, ◌*◌, ℕ, true, IfOk, IfErr, IfSome, []};
 ghost use Rattle.ball_model.specs.History.{calls_by};
 ghost use Rattle.ball_model.specs.Job.{Job, IsJob, job_of, part_of};
 ghost use Rattle.ball_model.specs.declared.plan.TheConstants.{MOST_REPLICAS};
-ghost use Rattle.workers.specs.Job.{AreDone, AreEnds, AreParts, AreStarted, HasRun, HasSplit};
-ghost use Rattle.workers.specs.Job.{IsFaultOf, IsFirstFault};
-ghost use Rattle.workers.specs.Job.{IsPartEnd, IsAssigned, IsPartStarted, IsSeatOf, KeepsItsOrders};
-ghost use Rattle.workers.specs.Job.{job_in};
+ghost use Rattle.workers.specs.Job.{AreDone, AreEnds, AreParts, AreStarted, HasSplit, IsAssigned};
+ghost use Rattle.workers.specs.Job.{IsFaultOf, IsFirstFault, IsNodeEnd, IsPartEnd, IsPartStarted};
+ghost use Rattle.workers.specs.Job.{HasRun, IsSeatOf, KeepsItsOrders};
 ghost use Rattle.workers.specs.Options.{are_in_limits, order_for, orders_for};
 ghost use Rattle.workers.specs.declared.options.RunOptions.{RunOptions as Asked};
 
@@ -19,7 +17,7 @@ use crate::gate::Gate;
 use crate::indexed::ReadyPart;
 use crate::node::{NodeError, NodeOrders, run_ready};
 use crate::options::RunOptions;
-use crate::planned::SharedPart;
+use crate::planned::Planned;
 use crate::running::{RunGate, Running};
 use crate::threads::{share_of, threads_for};
 use ball_model::{NodeId, Plan};
@@ -27,6 +25,7 @@ use board::{Board, Seat};
 use edgelist::Graph;
 use replica::Replica;
 use std::alloc::{AllocError, AllocGlobal};
+use std::marker::Model;
 use std::snapshot::Snapshot;
 use std::sync::Wait;
 use std::thread;
@@ -59,9 +58,11 @@ fn orders_for(options: &RunOptions, node: NodeId) -> NodeOrders
     }
 }
 
-// A node, and its orders.
-#[derive(Clone, Copy)]
-struct Duty {
+/// A node at its seat, with its part and its orders.
+#[derive(Drop)]
+struct Post {
+    seat: Seat,
+    part: ReadyPart,
     node: NodeId,
     orders: NodeOrders,
 }
@@ -70,235 +71,221 @@ struct Duty {
 fn run_at<R: AllocGlobal + Threads + Wait + Sync, G: Gate>(
     rt: &R,
     board: &Board,
-    seat: Seat,
     gate: &G,
     running: &Running,
-    part: ReadyPart,
-    duty: Duty,
+    post: Post,
 ) -> NodeResult
-    requires seat { IsSeatOf board.now seat.caller.seen.job seat }
-    requires start { calls_by seat.caller.number seat.caller.seen ≡ [] }
-    requires job { IsJob seat.caller.seen.job }
-    requires node { duty.node.part < seat.caller.seen.job.plan.parts }
-    requires part { part ≡ part_of seat.caller.seen.job duty.node.part }
-    ensures orders { KeepsItsOrders seat.caller.seen.job duty.node.part duty.orders result }
-    ensures ran { HasRun seat.caller.seen.job board.now.limit duty.node.part duty.orders result }
+    requires seat { IsSeatOf board.now post.seat.caller.seen.job post.seat }
+    requires start { calls_by post.seat.caller.number post.seat.caller.seen ≡ [] }
+    requires job { IsJob post.seat.caller.seen.job }
+    requires node { post.node.part < post.seat.caller.seen.job.plan.parts }
+    requires part { post.part ≡ part_of post.seat.caller.seen.job post.node.part }
+    ensures orders { KeepsItsOrders post.seat.caller.seen.job post.node.part post.orders result }
+    ensures ran { HasRun post.seat.caller.seen.job board.now.limit post.node.part post.orders
+        result }
 {
+    let Post {
+        seat,
+        part,
+        node,
+        orders,
+    } = post;
     let mut exchange = BoardExchange::new(board, seat);
     let gate = RunGate::new(gate, running);
     let threads = running.threads();
-    let end = run_ready(
-        rt,
-        &mut exchange,
-        &gate,
-        duty.node,
-        part,
-        &duty.orders,
-        threads,
-    );
+    let end = run_ready(rt, &mut exchange, &gate, node, part, &orders, threads);
     if !is_done(&end) {
-        running.end(duty.node.part);
+        running.end(node.part);
     }
     end
 }
 
-// Starts the thread of a node.
-fn start_node<'s, 'a: 's, X, R: AllocGlobal + Threads + Wait + Sync, G: Gate + Sync>(
+/// What the threads of a run share.
+#[derive(Drop)]
+struct Crew<'a, R, G> {
     rt: &'a R,
-    scope: &'s Scope<'s, X>,
     board: &'a Board,
-    seat: Seat,
     gate: &'a G,
     running: &'a Running,
-    part: ReadyPart,
-    assigned: Assignment,
-) -> Child
-    requires seat { IsSeatOf board.now (job_in assigned) seat }
-    requires start { calls_by seat.caller.number seat.caller.seen ≡ [] }
-    requires entries { assigned.entries ≡ board.now.limit }
-    requires job { IsJob (job_in assigned) }
-    requires node { assigned.node.part < (job_in assigned).plan.parts }
-    requires part { part ≡ part_of (job_in assigned) assigned.node.part }
-    ensures { IfSome result (λ child. child.promise ≡ assigned) }
-{
-    let duty = Duty {
-        node: assigned.node,
-        orders: assigned.orders,
-    };
-    let work = move || -> NodeResult
-        requires seat { IsSeatOf board.now seat.caller.seen.job seat }
-        requires start { calls_by seat.caller.number seat.caller.seen ≡ [] }
-        requires job { IsJob seat.caller.seen.job }
-        requires node { duty.node.part < seat.caller.seen.job.plan.parts }
-        requires part { part ≡ part_of seat.caller.seen.job duty.node.part }
-        ensures orders { KeepsItsOrders seat.caller.seen.job duty.node.part duty.orders result }
-        ensures ran { HasRun seat.caller.seen.job board.entry.now.limit duty.node.part duty.orders
-            result }
-    { run_at(rt, board, seat, gate, running, part, duty) };
-    let child = scope.spawn_with(assigned, work).ok();
-    if child.is_none() {
-        running.end(duty.node.part);
-    }
-    child
+    graph: &'a Graph,
+    plan: &'a Plan,
+    options: &'a RunOptions,
 }
 
-// Starts the threads of all nodes of a partition, which share its part.
-fn start_part<'s, 'a: 's, X, R: AllocGlobal + Threads + Wait + Sync, G: Gate + Sync>(
-    rt: &'a R,
-    scope: &'s Scope<'s, X>,
-    board: &'a Board,
-    first: &mut Seat,
-    gate: &'a G,
-    running: &'a Running,
-    graph: &Graph,
-    plan: &Plan,
-    options: &RunOptions,
-    p: u16,
-    part: &mut SharedPart,
-) -> Result<Vec<Child>, AllocError>
-    requires job { IsJob (job_of graph.now.graph plan.now) }
-    requires number { p < plan.now.parts }
-    requires part { IfOk part.old (λ part.
-        part ≡ part_of (job_of graph.now.graph plan.now) p) }
-    requires few { options.now.replicas ≤ MOST_REPLICAS }
-    requires entries { options.now.entries ≡ board.now.limit }
-    requires seat { HasSplit board.now (job_of graph.now.graph plan.now) (MOST_REPLICAS * p)
-        first.old }
-    ensures seat { HasSplit board.now (job_of graph.now.graph plan.now) (MOST_REPLICAS * (p + 1))
-        first.new }
-    ensures started { IfOk result (λ own. IsPartStarted (λ child. child.promise)
-        (job_of graph.now.graph plan.now) options.now p own.items) }
-    ensures part { part.new ≡ part.old }
-{
-    let Ok(part) = part else {
-        return Err(AllocError);
-    };
-    let mut children = Vec::with_capacity(rt.alloc(), usize::from(options.replicas))?;
-    for replica in 0..options.replicas {
-        let node = NodeId { part: p, replica };
-        let assigned = Assignment {
-            graph: Snapshot::of(graph),
-            plan: *plan,
+impl<'a, R, G> Model for Crew<'a, R, G> {
+    ghost use Rattle.ball_model.specs.Job.{job_of};
+    ghost use Rattle.workers.specs.Job.{CrewView, IsCrew};
+
+    ghost Value = { CrewView };
+
+    ghost view = { λ c. record {
+      board = c.board.now;
+      job = job_of c.graph.now.graph c.plan.now;
+      options = c.options.now;
+    } };
+
+    ghost invariant = { λ c.
+        IsCrew c.board.now (job_of c.graph.now.graph c.plan.now) c.options.now };
+}
+
+impl<'a, R: AllocGlobal + Threads + Wait + Sync, G: Gate + Sync> Crew<'a, R, G> {
+    // What the thread of a node promises.
+    fn assignment(&self, node: NodeId) -> Assignment
+        ensures { IsAssigned self.now.job self.now.options node.part node.replica result }
+    {
+        Assignment {
+            graph: Snapshot::of(self.graph),
+            plan: Snapshot::of(self.plan),
+            options: Snapshot::of(self.options),
             node,
-            orders: orders_for(options, node),
-            entries: options.entries,
+        }
+    }
+
+    // Starts the thread of a node.
+    fn start_node<'s, X>(
+        &'a self,
+        scope: &'s Scope<'s, X>,
+        seat: Seat,
+        part: ReadyPart,
+        node: NodeId,
+    ) -> Child
+    where
+        'a: 's,
+        requires seat { IsSeatOf self.now.board self.now.job seat }
+        requires start { calls_by seat.caller.number seat.caller.seen ≡ [] }
+        requires node { node.part < self.now.job.plan.parts }
+        requires part { part ≡ part_of self.now.job node.part }
+        ensures { IfSome result (λ child.
+            IsAssigned self.now.job self.now.options node.part node.replica child.promise) }
+    {
+        let assigned = self.assignment(node);
+        let (rt, board, gate, running) = (self.rt, self.board, self.gate, self.running);
+        let orders = orders_for(self.options, node);
+        let post = Post {
+            seat,
+            part,
+            node,
+            orders,
         };
-        let part = part.hand_out(rt.alloc())?;
-        let seat = first.split(board);
-        children.push(start_node(rt, scope, board, seat, gate, running, part, assigned))?;
+        let work = move || -> NodeResult
+            requires seat { IsSeatOf board.now post.seat.caller.seen.job post.seat }
+            requires start { calls_by post.seat.caller.number post.seat.caller.seen ≡ [] }
+            requires job { IsJob post.seat.caller.seen.job }
+            requires node { post.node.part < post.seat.caller.seen.job.plan.parts }
+            requires part { post.part ≡ part_of post.seat.caller.seen.job post.node.part }
+            ensures orders { KeepsItsOrders post.seat.caller.seen.job post.node.part post.orders
+                result }
+            ensures ran { HasRun post.seat.caller.seen.job board.entry.now.limit post.node.part
+                post.orders result }
+        { run_at(rt, board, gate, running, post) };
+        let child = scope.spawn_with(assigned, work).ok();
+        if child.is_none() {
+            self.running.end(node.part);
+        }
+        child
     }
-    Ok(children)
-}
 
-// Starts the threads of the nodes of each partition, by its part.
-fn start_each<'s, 'a: 's, X, R: AllocGlobal + Threads + Wait + Sync, G: Gate + Sync>(
-    rt: &'a R,
-    scope: &'s Scope<'s, X>,
-    board: &'a Board,
-    first: &mut Seat,
-    gate: &'a G,
-    running: &'a Running,
-    graph: &Graph,
-    plan: &Plan,
-    options: &RunOptions,
-    parts: &mut [SharedPart],
-    children: &mut Vec<Vec<Child>>,
-) -> Result<(), AllocError>
-    requires job { IsJob (job_of graph.now.graph plan.now) }
-    requires few { options.now.replicas ≤ MOST_REPLICAS }
-    requires entries { options.now.entries ≡ board.now.limit }
-    requires seat { HasSplit board.now (job_of graph.now.graph plan.now) 0 first.old }
-    requires parts { AreParts (job_of graph.now.graph plan.now) parts.old }
-    requires none { children.old.items ≡ [] }
-    ensures { OnOk result (AreStarted (λ child. child.promise) (λ own. own.items)
-        (job_of graph.now.graph plan.now) options.now children.new.items) }
-{
-    for p in 0..plan.parts() {
-        let part = &mut parts[usize::from(p)];
-        let own = start_part(
-            rt, scope, board, first, gate, running, graph, plan, options, p, part,
-        )?;
-        children.push(own)?;
+    // Starts the threads of all nodes of a partition, which share its part.
+    fn start_part<'s, X>(
+        &'a self,
+        scope: &'s Scope<'s, X>,
+        first: &mut Seat,
+        p: u16,
+        part: &mut ReadyPart,
+    ) -> Result<Vec<Child>, AllocError>
+    where
+        'a: 's,
+        requires number { p < self.now.job.plan.parts }
+        requires part { part.old ≡ part_of self.now.job p }
+        requires seat { HasSplit self.now.board self.now.job (MOST_REPLICAS * p) first.old }
+        ensures seat { HasSplit self.now.board self.now.job (MOST_REPLICAS * (p + 1)) first.new }
+        ensures started { IfOk result (λ own. IsPartStarted (λ child. child.promise)
+            self.now.job self.now.options p own.items) }
+        ensures part { part.new ≡ part.old }
+    {
+        let alloc = self.rt.alloc();
+        let replicas = self.options.replicas;
+        let mut children = Vec::with_capacity(alloc, usize::from(replicas))?;
+        for replica in 0..replicas {
+            let node = NodeId { part: p, replica };
+            let part = part.hand_out(alloc)?;
+            let seat = first.split(self.board);
+            children.push(self.start_node(scope, seat, part, node))?;
+        }
+        Ok(children)
     }
-    Ok(())
-}
 
-// Starts the threads of all nodes.
-fn start_all<'s, 'a: 's, X, R: AllocGlobal + Threads + Wait + Sync, G: Gate + Sync>(
-    rt: &'a R,
-    scope: &'s Scope<'s, X>,
-    board: &'a Board,
-    first: &mut Seat,
-    gate: &'a G,
-    running: &'a Running,
-    graph: &Graph,
-    plan: &Plan,
-    options: &RunOptions,
-    parts: &mut [SharedPart],
-) -> Result<Vec<Vec<Child>>, AllocError>
-    requires job { IsJob (job_of graph.now.graph plan.now) }
-    requires few { options.now.replicas ≤ MOST_REPLICAS }
-    requires entries { options.now.entries ≡ board.now.limit }
-    requires parts { AreParts (job_of graph.now.graph plan.now) parts.old }
-    requires seat { HasSplit board.now (job_of graph.now.graph plan.now) 0 first.old }
-    ensures { IfOk result (λ all. AreStarted (λ child. child.promise) (λ own. own.items)
-        (job_of graph.now.graph plan.now) options.now all.items) }
-{
-    let mut children = Vec::with_capacity(rt.alloc(), usize::from(plan.parts()))?;
-    start_each(
-        rt,
-        scope,
-        board,
-        first,
-        gate,
-        running,
-        graph,
-        plan,
-        options,
-        parts,
-        &mut children,
-    )?;
-    Ok(children)
-}
-
-// Starts the threads of all nodes; where that fails, those that were started wait no more.
-fn start_or_stop<'s, 'a: 's, X, R: AllocGlobal + Threads + Wait + Sync, G: Gate + Sync>(
-    rt: &'a R,
-    scope: &'s Scope<'s, X>,
-    board: &'a Board,
-    mut first: Seat,
-    gate: &'a G,
-    running: &'a Running,
-    graph: &Graph,
-    plan: &Plan,
-    options: &RunOptions,
-    parts: &mut [SharedPart],
-) -> Result<Vec<Vec<Child>>, AllocError>
-    requires job { IsJob (job_of graph.now.graph plan.now) }
-    requires few { options.now.replicas ≤ MOST_REPLICAS }
-    requires entries { options.now.entries ≡ board.now.limit }
-    requires parts { AreParts (job_of graph.now.graph plan.now) parts.old }
-    requires seat { HasSplit board.now (job_of graph.now.graph plan.now) 0 first }
-    ensures { IfOk result (λ all. AreStarted (λ child. child.promise) (λ own. own.items)
-        (job_of graph.now.graph plan.now) options.now all.items) }
-{
-    let started = start_all(
-        rt, scope, board, &mut first, gate, running, graph, plan, options, parts,
-    );
-    if started.is_err() {
-        running.stop();
+    // Starts the threads of all nodes, partition by partition.
+    fn start_all<'s, X>(
+        &'a self,
+        scope: &'s Scope<'s, X>,
+        first: &mut Seat,
+        parts: &mut [ReadyPart],
+    ) -> Result<Vec<Vec<Child>>, AllocError>
+    where
+        'a: 's,
+        requires parts { AreParts self.now.job parts.old }
+        requires seat { HasSplit self.now.board self.now.job 0 first.old }
+        ensures { IfOk result (λ all. AreStarted (λ child. child.promise) (λ own. own.items)
+            self.now.job self.now.options all.items) }
+    {
+        let count = self.plan.parts();
+        let mut children = Vec::with_capacity(self.rt.alloc(), usize::from(count))?;
+        for p in 0..count {
+            let part = &mut parts[usize::from(p)];
+            let own = self.start_part(scope, first, p, part)?;
+            children.push(own)?;
+        }
+        Ok(children)
     }
-    started
+
+    // Starts the threads of all nodes; where that fails, those that were started wait no more.
+    fn start_or_stop<'s, X>(
+        &'a self,
+        scope: &'s Scope<'s, X>,
+        mut first: Seat,
+        parts: &mut [ReadyPart],
+    ) -> Result<Vec<Vec<Child>>, AllocError>
+    where
+        'a: 's,
+        requires parts { AreParts self.now.job parts.old }
+        requires seat { HasSplit self.now.board self.now.job 0 first }
+        ensures { IfOk result (λ all. AreStarted (λ child. child.promise) (λ own. own.items)
+            self.now.job self.now.options all.items) }
+    {
+        let started = self.start_all(scope, &mut first, parts);
+        if started.is_err() {
+            self.running.stop();
+        }
+        started
+    }
+
+    // Starts all nodes, waits for all, and puts together what they say.
+    fn run_in<'s, X>(
+        &'a self,
+        scope: &'s Scope<'s, X>,
+        first: Seat,
+        parts: &mut [ReadyPart],
+    ) -> Result<Vec<Replica>, JobError>
+    where
+        'a: 's,
+        requires parts { AreParts self.now.job parts.old }
+        requires seat { HasSplit self.now.board self.now.job 0 first }
+        ensures done { IfOk result (λ rs. AreDone self.now.job rs.items) }
+        ensures fault { IfErr result (IsFaultOf self.now.job.plan.parts self.now.options) }
+        ensures first { IfErr result (λ e. e ≢ JobError.Memory →
+            IsFirstFault self.now.job self.now.options e) }
+    {
+        let children = self.start_or_stop(scope, first, parts)?;
+        let ends = join_all(self.rt, children)?;
+        done_replicas(self.rt.alloc(), ends)
+    }
 }
 
 // The end of a node, once its thread has ended; a node without a thread ended for want of memory.
 fn end_of<R: Threads>(rt: &R, child: Child) -> NodeResult
-    ensures orders { (j : Job) (o : Asked) (p k : ℕ) →
-        IfSome child (λ h. IsAssigned j o p k h.promise) →
-        KeepsItsOrders j p (orders_for o p k) result }
-    ensures ran { (j : Job) (o : Asked) (p k : ℕ) → p < j.plan.parts →
-        IfSome child (λ h. IsAssigned j o p k h.promise) →
-        HasRun j o.entries p (orders_for o p k) result }
+    ensures { (j : Job) (o : Asked) (p k : ℕ) → p < j.plan.parts →
+        IfSome child (λ h. IsAssigned j o p k h.promise) → IsNodeEnd j o p k result }
 {
     match child {
         Some(child) => child.join(rt),
@@ -339,81 +326,53 @@ fn join_all<R: AllocGlobal + Threads>(
     Ok(ends)
 }
 
-// Starts all nodes, waits for all, and puts together what they say.
-fn run_in<'s, 'a: 's, X, R: AllocGlobal + Threads + Wait + Sync, G: Gate + Sync>(
-    rt: &'a R,
-    scope: &'s Scope<'s, X>,
-    board: &'a Board,
-    first: Seat,
-    gate: &'a G,
-    running: &'a Running,
-    graph: &Graph,
-    plan: &Plan,
-    options: &RunOptions,
-    parts: &mut [SharedPart],
-) -> Result<Vec<Replica>, JobError>
-    requires job { IsJob (job_of graph.now.graph plan.now) }
-    requires few { options.now.replicas ≤ MOST_REPLICAS }
-    requires entries { options.now.entries ≡ board.now.limit }
-    requires parts { AreParts (job_of graph.now.graph plan.now) parts.old }
-    requires seat { HasSplit board.now (job_of graph.now.graph plan.now) 0 first }
-    ensures done { IfOk result (λ rs. AreDone (job_of graph.now.graph plan.now) rs.items) }
-    ensures fault { IfErr result (IsFaultOf plan.now.parts options.now) }
-    ensures first { IfErr result (λ e. e ≢ JobError.Memory →
-        IsFirstFault (job_of graph.now.graph plan.now) options.now e) }
-{
-    let children = start_or_stop(
-        rt, scope, board, first, gate, running, graph, plan, options, parts,
-    )?;
-    let ends = join_all(rt, children)?;
-    done_replicas(rt.alloc(), ends)
-}
-
 /// Runs all nodes of a job by the parts of its partitions, a thread each, and gives the replica of each partition at the
 /// end of the run: that of the first of its nodes that is done.
-pub fn run_job<R: AllocGlobal + Threads + Wait + Sync, G: Gate + Sync>(
-    rt: &R,
-    graph: &Graph,
-    plan: &Plan,
-    parts: &mut [SharedPart],
-    options: &RunOptions,
-    gate: &G,
+pub fn run_job<'a, R: AllocGlobal + Threads + Wait + Sync, G: Gate + Sync>(
+    rt: &'a R,
+    graph: &'a Graph,
+    planned: Planned,
+    options: &'a RunOptions,
+    gate: &'a G,
 ) -> Result<Vec<Replica>, JobError>
-    requires job { IsJob (job_of graph.now.graph plan.now) }
-    requires parts { AreParts (job_of graph.now.graph plan.now) parts.old }
+    requires job { IsJob (job_of graph.now.graph planned.plan) }
+    requires parts { AreParts (job_of graph.now.graph planned.plan) planned.parts.items }
     requires limits { are_in_limits options.now ≡ true }
-    ensures done { IfOk result (λ rs. AreDone (job_of graph.now.graph plan.now) rs.items) }
-    ensures fault { IfErr result (IsFaultOf plan.now.parts options.now) }
+    ensures done { IfOk result (λ rs. AreDone (job_of graph.now.graph planned.plan) rs.items) }
+    ensures fault { IfErr result (IsFaultOf planned.plan.parts options.now) }
     ensures first { IfErr result (λ e. e ≢ JobError.Memory →
-        IsFirstFault (job_of graph.now.graph plan.now) options.now e) }
+        IsFirstFault (job_of graph.now.graph planned.plan) options.now e) }
 {
-    let (board, first) = Board::open(rt.alloc(), graph, plan, options.entries)?;
-    let board = &board;
+    let Planned { plan, mut parts } = planned;
+    let (board, first) = Board::open(rt.alloc(), graph, &plan, options.entries)?;
     let threads = share_of(
         threads_for(rt, options.threads),
         plan.parts(),
         options.replicas,
     );
     let running = Running::new(rt.alloc(), plan.parts(), options.replicas, threads)?;
-    let running = &running;
+    let crew = Crew {
+        rt,
+        board: &board,
+        gate,
+        running: &running,
+        graph,
+        plan: &plan,
+        options,
+    };
+    let crew = &crew;
+    let parts = parts.as_mut_slice();
     thread::scope(
         thread::scope_env(),
         rt,
         |scope| -> Result<Vec<Replica>, JobError>
-            requires job { IsJob (job_of graph.now.graph plan.now) }
-            requires few { options.now.replicas ≤ MOST_REPLICAS }
-            requires entries { options.now.entries ≡ board.now.limit }
-            requires parts { AreParts (job_of graph.now.graph plan.now) parts.now }
-            requires seat { HasSplit board.now (job_of graph.now.graph plan.now) 0 first }
-            ensures done { IfOk result (λ rs.
-                AreDone (job_of graph.entry.now.graph plan.entry.now) rs.items) }
-            ensures fault { IfErr result (IsFaultOf plan.entry.now.parts options.entry.now) }
-            ensures first { IfErr result (λ e. e ≢ JobError.Memory → IsFirstFault
-                (job_of graph.entry.now.graph plan.entry.now) options.entry.now e) }
-        {
-            run_in(
-                rt, scope, board, first, gate, running, graph, plan, options, parts,
-            )
-        },
+            requires parts { AreParts crew.now.job parts.now }
+            requires seat { HasSplit crew.now.board crew.now.job 0 first }
+            ensures done { IfOk result (λ rs. AreDone crew.entry.now.job rs.items) }
+            ensures fault { IfErr result
+                (IsFaultOf crew.entry.now.job.plan.parts crew.entry.now.options) }
+            ensures first { IfErr result (λ e. e ≢ JobError.Memory →
+                IsFirstFault crew.entry.now.job crew.entry.now.options e) }
+        { crew.run_in(scope, first, parts) },
     )
 }

@@ -9,7 +9,8 @@ ghost use Rattle.ball_model.specs.Caller.{Extends, IsCaller, IsFull};
 ghost use Rattle.workers.specs.declared.node.NodeError.TheVariants.{BookFull, Memory};
 ghost use Rattle.workers.specs.Node.{FallsDue, HasToldAll, IfDone, IfLost, IfStarved, IsDone};
 ghost use Rattle.workers.specs.Node.{WasMissing};
-ghost use Rattle.workers.specs.Tie.{HasCome, HasGone, HasReached, IsNodePath, IsPathTo};
+ghost use Rattle.workers.specs.Tie.{HasCome, HasGone, HasPath, HasReached, IsNodePath, IsPath};
+ghost use Rattle.workers.specs.Tie.{IsPathTo, KeptIfTold};
 ghost use Rattle.workers.specs.Superstep.{EndsAs, IsAnew, IsFate, IsFirst, IsPartOf, StandsIn};
 ghost use Rattle.workers.specs.Superstep.{early_end, end_with};
 ghost use Rattle.replica.specs.Sent.{batch_name};
@@ -168,12 +169,12 @@ fn go_on<R: AllocGlobal + Threads + Wait + Sync, E: Exchange, G: Gate>(
     requires stands { StandsIn (E.caller exchange.old) node.part replica.old }
     ensures seen { Extends (E.caller exchange.old) (E.caller exchange.new) }
     ensures stands { OnOk result (StandsIn (E.caller exchange.old) node.part replica.new) }
-    ensures fate { IfOk result (λ fate. IsFate (E.caller exchange.old) node.part orders.now.lose
+    ensures fate { IfOk result (λ fate. IsFate (E.caller exchange.old) node.part orders.now
         replica.new fate (E.caller exchange.new)) }
-    ensures came { OnOk result (HasCome (E.caller exchange.old) node.part (holding_in replica.old)
-        (holding_in replica.new) (E.caller exchange.new)) }
-    ensures gone { OnErr result (HasGone (E.caller exchange.old) node.part (holding_in replica.old)
-        (E.caller exchange.new)) }
+    ensures came { OnOk result (IsPath orders.now.keep (E.caller exchange.old) node.part
+        (holding_in replica.old) (holding_in replica.new) (E.caller exchange.new)) }
+    ensures gone { OnErr result (HasPath orders.now.keep (E.caller exchange.old) node.part
+        (holding_in replica.old) (E.caller exchange.new)) }
     ensures full { IfErr result (λ e. e ≡ BookFull → IsFull (E.caller exchange.new)) }
     ensures alone { (E.caller exchange.old).seen.job.plan.parts ≡ 1 → orders.now.keep ≡ 0 →
         orders.now.restart ≡ None → result ≢ Err BookFull }
@@ -256,20 +257,25 @@ pub fn run_node<R: AllocGlobal + Threads + Wait + Sync, E: Exchange, G: Gate>(
         (IsDone (E.caller exchange.old).seen.job node.part)) }
     ensures told { IfOk result (λ end. IfDone end (λ r. HasToldAll (E.caller exchange.old)
         r.superstep node.part (E.caller exchange.new))) }
+    ensures kept { IfOk result (λ end. IfDone end (λ r. KeptIfTold orders.now.keep
+        (E.caller exchange.old) r.superstep (E.caller exchange.new))) }
     ensures lost { IfOk result (λ end. IfLost end (FallsDue orders.now.lose)) }
-    ensures reached { IfOk result (λ end. IfLost end (λ s.
-        HasReached (E.caller exchange.old) node.part s (E.caller exchange.new))) }
+    ensures reached { IfOk result (λ end. IfLost end (λ s. HasReached orders.now.keep
+        (E.caller exchange.old) node.part s (E.caller exchange.new))) }
     ensures spared { IfOk result (λ end. IfDone end (λ r.
         FallsDue orders.now.lose r.superstep → ⊥)) }
     ensures starved { IfOk result (λ end. IfStarved end (λ s q.
         WasMissing (E.caller exchange.old) (batch_name s q node.part) (E.caller exchange.new))) }
     ensures starved_told { IfOk result (λ end. IfStarved end (λ s q.
         HasToldAll (E.caller exchange.old) s node.part (E.caller exchange.new))) }
+    ensures starved_kept { IfOk result (λ end. IfStarved end (λ s q. KeptIfTold orders.now.keep
+        (E.caller exchange.old) s (E.caller exchange.new))) }
     ensures source { IfOk result (λ end. IfStarved end (λ s q.
         (q < (E.caller exchange.old).seen.job.plan.parts) × (q ≢ node.part))) }
-    ensures path { IsNodePath (E.caller exchange.old) node.part (E.caller exchange.new) }
-    ensures came { IfOk result (λ end. IfDone end (λ r.
-        IsPathTo (E.caller exchange.old) node.part r (E.caller exchange.new))) }
+    ensures path { IsNodePath orders.now.keep (E.caller exchange.old) node.part
+        (E.caller exchange.new) }
+    ensures came { IfOk result (λ end. IfDone end (λ r. IsPathTo orders.now.keep
+        (E.caller exchange.old) node.part r (E.caller exchange.new))) }
     ensures full { IfErr result (λ e. e ≡ BookFull → IsFull (E.caller exchange.new)) }
     ensures alone { (E.caller exchange.old).seen.job.plan.parts ≡ 1 →
         IfOk result (λ end. IfStarved end (λ s q. ⊥)) }
@@ -296,7 +302,7 @@ pub(crate) fn run_ready<R: AllocGlobal + Threads + Wait + Sync, E: Exchange, G: 
     requires node { node.part < (E.caller exchange.old).seen.job.plan.parts }
     requires part { part ≡ part_of (E.caller exchange.old).seen.job node.part }
     ensures seen { Extends (E.caller exchange.old) (E.caller exchange.new) }
-    ensures ends { EndsAs (E.caller exchange.old) node.part orders.now.lose result
+    ensures ends { EndsAs (E.caller exchange.old) node.part orders.now result
         (E.caller exchange.new) }
     ensures fits { (E.caller exchange.old).seen.job.plan.parts ≡ 1 → orders.now.keep ≡ 0 →
         orders.now.restart ≡ None → result ≢ Err BookFull }
@@ -321,7 +327,7 @@ fn run_from<R: AllocGlobal + Threads + Wait + Sync, E: Exchange, G: Gate>(
     requires part { IsPartOf (E.caller exchange.old) node.part (arc_value part.now) }
     requires first { IsFirst (E.caller exchange.old).seen.job node.part replica }
     ensures seen { Extends (E.caller exchange.old) (E.caller exchange.new) }
-    ensures ends { EndsAs (E.caller exchange.old) node.part orders.now.lose result
+    ensures ends { EndsAs (E.caller exchange.old) node.part orders.now result
         (E.caller exchange.new) }
     ensures fits { (E.caller exchange.old).seen.job.plan.parts ≡ 1 → orders.now.keep ≡ 0 →
         orders.now.restart ≡ None → result ≢ Err BookFull }

@@ -5,7 +5,7 @@ ghost use Rattle.std.specs.Prelude.{◌≡◌, ◌<◌, ◌^◌, ℕ, IfOk};
 ghost use Rattle.ball_model.specs.Job.{Job, digest_of, job_of, part_of};
 ghost use Rattle.edgelist.specs.Feeding.{feeds_of};
 ghost use Rattle.edgelist.specs.Planning.{signed};
-ghost use Rattle.workers.specs.Job.{AreParts, signed_job};
+ghost use Rattle.workers.specs.Job.{AreMade, AreParts, signed_job};
 
 use crate::indexed::{IndexedPart, ReadyPart};
 use ball_model::Plan;
@@ -14,21 +14,21 @@ use std::alloc::{AllocError, AllocGlobal, Global};
 use std::thread;
 use std::thread::Threads;
 
-/// A part that the nodes of its partition share, where there was memory for it.
-pub(crate) type SharedPart = Result<ReadyPart, AllocError>;
-
-// A part that was made with its index, where there was memory for it.
-type MadePart = Result<IndexedPart, AllocError>;
-
 /// The plan of a job, and the part of each of its partitions.
 #[derive(Drop)]
 pub(crate) struct Planned {
     pub(crate) plan: Plan,
-    pub(crate) parts: Vec<SharedPart>,
+    pub(crate) parts: Vec<ReadyPart>,
 }
 
 // The part of a partition, with its index.
-fn made_part(alloc: Global, graph: &Graph, plan: &Plan, p: u16, feeds: &Feeds) -> MadePart
+fn made_part(
+    alloc: Global,
+    graph: &Graph,
+    plan: &Plan,
+    p: u16,
+    feeds: &Feeds,
+) -> Result<IndexedPart, AllocError>
     requires vertices { plan.now.vertices ≡ graph.now.graph.vertices }
     requires part { p < plan.now.parts }
     requires feeds { feeds.now ≡ feeds_of graph.now.graph plan.now.parts }
@@ -37,21 +37,21 @@ fn made_part(alloc: Global, graph: &Graph, plan: &Plan, p: u16, feeds: &Feeds) -
     IndexedPart::of(alloc, graph.part_with(alloc, plan, p, feeds)?)
 }
 
-// The parts of all partitions, each made by a thread of its own where there could be one. The edges are walked over
-// once for the masks of all.
+// The parts of all partitions, where there was memory for each, made by a thread of its own where there could be one. The
+// edges are walked over once for the masks of all.
 fn made_parts<R: AllocGlobal + Threads + Sync>(
     rt: &R,
     graph: &Graph,
     plan: &Plan,
-) -> Result<Vec<MadePart>, AllocError>
+) -> Result<Vec<Result<IndexedPart, AllocError>>, AllocError>
     requires { plan.now.vertices ≡ graph.now.graph.vertices }
     ensures { IfOk result (λ parts.
-        AreParts (job_of graph.now.graph plan.now) parts.items) }
+        AreMade (job_of graph.now.graph plan.now) parts.items) }
 {
     let alloc = rt.alloc();
     let feeds = graph.feeds(alloc, plan)?;
     let feeds = &feeds;
-    let make = |p: usize| -> MadePart
+    let make = |p: usize| -> Result<IndexedPart, AllocError>
         requires vertices { plan.now.vertices ≡ graph.now.graph.vertices }
         requires part { p < plan.now.parts }
         requires few { p < 2 ^ 16 }
@@ -63,7 +63,11 @@ fn made_parts<R: AllocGlobal + Threads + Sync>(
 }
 
 // A part of the plan with this digest, to be shared.
-fn shared_part(alloc: Global, part: MadePart, job: [u8; 32]) -> SharedPart
+fn shared_part(
+    alloc: Global,
+    part: Result<IndexedPart, AllocError>,
+    job: [u8; 32],
+) -> Result<ReadyPart, AllocError>
     ensures { (j : Job) (p : ℕ) → IfOk part (λ made. made ≡ part_of j p) →
         IfOk result (λ shared. shared ≡ part_of (signed_job j job) p) }
 {
@@ -73,15 +77,16 @@ fn shared_part(alloc: Global, part: MadePart, job: [u8; 32]) -> SharedPart
 // The parts of the plan with this digest, to be shared.
 fn shared_parts(
     alloc: Global,
-    parts: Vec<MadePart>,
+    parts: Vec<Result<IndexedPart, AllocError>>,
     job: [u8; 32],
-) -> Result<Vec<SharedPart>, AllocError>
-    ensures { (j : Job) → AreParts j parts.items →
+) -> Result<Vec<ReadyPart>, AllocError>
+    ensures { (j : Job) → AreMade j parts.items →
         IfOk result (λ shared. AreParts (signed_job j job) shared.items) }
 {
     let mut shared = Vec::with_capacity(alloc, parts.len())?;
     for part in parts {
-        shared.push(shared_part(alloc, part, job))?;
+        let ready = shared_part(alloc, part, job)?;
+        shared.push(ready)?;
     }
     Ok(shared)
 }
@@ -100,10 +105,10 @@ pub(crate) fn plan_parts<R: AllocGlobal + Threads + Sync>(
     let digest = || -> [u8; 32]
         ensures { result ≡ digest_of bare.entry.now graph.entry.now.graph }
     { graph.digest(bare) };
-    let parts = || -> Result<Vec<MadePart>, AllocError>
+    let parts = || -> Result<Vec<Result<IndexedPart, AllocError>>, AllocError>
         requires { bare.now.vertices ≡ graph.now.graph.vertices }
         ensures { IfOk result (λ parts.
-            AreParts (job_of graph.entry.now.graph bare.entry.now) parts.items) }
+            AreMade (job_of graph.entry.now.graph bare.entry.now) parts.items) }
     { made_parts(rt, graph, bare) };
     let (job, parts) = thread::join(rt, digest, parts);
     let parts = shared_parts(rt.alloc(), parts?, job)?;

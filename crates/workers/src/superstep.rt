@@ -11,15 +11,15 @@ ghost use Rattle.ball_model.specs.History.{holding_in};
 ghost use Rattle.ball_model.specs.Join.{Holding};
 ghost use Rattle.ball_model.specs.Steps.{Close};
 ghost use Rattle.workers.specs.declared.node.NodeError.TheVariants.{BookFull};
-ghost use Rattle.workers.specs.Node.{HasPosted, HasToldAll, WasMissing};
+ghost use Rattle.workers.specs.Node.{HasPosted, HasToldAll, WasMissing, is_kept_at};
 ghost use Rattle.ball_model.specs.Job.{Job};
 ghost use Rattle.ball_model.specs.State.{StandsFor};
 ghost use Rattle.replica.specs.Level.{EndsRun, found_verdict, missing_in};
 ghost use Rattle.workers.specs.declared.superstep.SuperstepEnd.TheVariants as superstep_end;
 ghost use Rattle.workers.specs.Superstep.{DropsBefore, HasKept, HasRecalled, IsFound, IsSuperstepEnd};
-ghost use Rattle.workers.specs.Superstep.{StandsIn, is_kept_at};
+ghost use Rattle.workers.specs.Superstep.{StandsIn};
 ghost use Rattle.replica.specs.Sent.{AreChanged, batch_name};
-ghost use Rattle.workers.specs.Tie.{HasCome, HasGone};
+ghost use Rattle.workers.specs.Tie.{HasCome, HasGone, HasPath, IsPath, KeptIfTold};
 
 use crate::exchange::Exchange;
 use crate::gate::Gate;
@@ -119,8 +119,8 @@ fn keep_snapshot<R: AllocGlobal + Wait, E: Exchange>(
         HasKept (E.caller exchange.old) (holding_in replica.old) (E.caller exchange.new)) }
     ensures unkept { is_kept_at every replica.old.superstep ≡ false →
         CalledNothing (E.caller exchange.old) (E.caller exchange.new) }
-    ensures came { OnOk result (HasCome (E.caller exchange.old) node.part (holding_in replica.old)
-        (holding_in replica.new) (E.caller exchange.new)) }
+    ensures came { OnOk result (IsPath every (E.caller exchange.old) node.part
+        (holding_in replica.old) (holding_in replica.new) (E.caller exchange.new)) }
     ensures gone { OnErr result (HasGone (E.caller exchange.old) node.part (holding_in replica.old)
         (E.caller exchange.new)) }
     ensures full { IfErr result (λ e. e ≡ BookFull → IsFull (E.caller exchange.new)) }
@@ -410,12 +410,14 @@ pub fn run_superstep<R: AllocGlobal + Threads + Wait + Sync, E: Exchange, G: Gat
     ensures stands { OnOk result (StandsIn (E.caller exchange.old) node.part replica.new) }
     ensures end { IfOk result (λ end.
         IsSuperstepEnd (E.caller exchange.old) node.part replica.new end (E.caller exchange.new)) }
-    ensures over { IfOk result (λ end. end ≡ superstep_end.Over →
+    ensures stays { IfOk result (λ end. end ≢ superstep_end.Next →
         replica.new.superstep ≡ replica.old.superstep) }
-    ensures came { OnOk result (HasCome (E.caller exchange.old) node.part (holding_in replica.old)
-        (holding_in replica.new) (E.caller exchange.new)) }
-    ensures gone { OnErr result (HasGone (E.caller exchange.old) node.part (holding_in replica.old)
-        (E.caller exchange.new)) }
+    ensures kept { OnOk result (KeptIfTold orders.now.keep (E.caller exchange.old)
+        replica.old.superstep (E.caller exchange.new)) }
+    ensures came { OnOk result (IsPath orders.now.keep (E.caller exchange.old) node.part
+        (holding_in replica.old) (holding_in replica.new) (E.caller exchange.new)) }
+    ensures gone { OnErr result (HasPath orders.now.keep (E.caller exchange.old) node.part
+        (holding_in replica.old) (E.caller exchange.new)) }
     ensures full { IfErr result (λ e. e ≡ BookFull → IsFull (E.caller exchange.new)) }
     ensures alone { (E.caller exchange.old).seen.job.plan.parts ≡ 1 → orders.now.keep ≡ 0 →
         result ≢ Err BookFull }

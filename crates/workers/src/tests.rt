@@ -3,13 +3,11 @@
 mod counts;
 mod estimates;
 mod gates;
-mod losses;
 mod refusals;
 mod rows;
 mod runs;
 mod schedules;
 mod tables;
-mod threads;
 
 ghost use Rattle.std.specs.Arc.{arc_value};
 ghost use Rattle.std.specs.Prelude.{◌≡◌, ◌<◌, ◌≤◌, IfSome};

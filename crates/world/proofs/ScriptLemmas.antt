@@ -13,7 +13,7 @@ use Rattle.ball_model.specs.declared.world.Event.{Event}
 use Rattle.ball_model.specs.Input.{fields, is_record, with_first_byte}
 use Rattle.ball_model.specs.WorldText.{command_of, events_from, node_from, node_in, number_in, one_command, script_of, two_command, value_from, with_command}
 use Rattle.ball_model.specs.Sections.{longer}
-use Rattle.world.specs.Script.{added, cut_of, fault_of, is_command_or_skipped, most}
+use Rattle.world.specs.Script.{added, cut_of, fault_line, is_command_or_skipped, most}
 
 -- ---- cutting
 
@@ -227,15 +227,15 @@ number-other word text v is few other printed =
 
 -- the first fault of a script is the first of what is left of it, from the line of that number on
 pub record HasNoFaultSoFar (script rest : List ℕ) (number : ℕ) : Type 0 where
-  pub meaning : fault_of (script_of script) ≡ fault_of (events_from number (lines rest))
+  pub meaning : fault_line (script_of script) ≡ fault_line (events_from number (lines rest))
   pub within : number + length rest ≤ length script + 1
 
-fault-behind : (e : Event) (more : Result (List Event) ℕ) (number : ℕ) → fault_of (with_command number (Some e) more) ≡ fault_of more
+fault-behind : (e : Event) (more : Result (List Event) ℕ) (number : ℕ) → fault_line (with_command number (Some e) more) ≡ fault_line more
 fault-behind e (Ok es) number = refl
 fault-behind e (Err line) number = refl
 
 fault-further : (number : ℕ) (more : Result (List Event) ℕ) (is_one : Bool) (o : Option Event) → (if is_one then is_some o else true) ≡ true →
-    fault_of (if is_one then with_command number o more else more) ≡ fault_of more
+    fault_line (if is_one then with_command number o more else more) ≡ fault_line more
 fault-further number more true None is = absurd (cc)
 fault-further number more true (Some e) is = fault-behind e more number
 fault-further number more false o is = refl
@@ -245,35 +245,35 @@ pub pass-line : (script rest line after : List ℕ) (number : ℕ) → HasNoFaul
     HasNoFaultSoFar script after (number + 1)
 unfolding events_from
 pass-line script rest line after number h is short fine = record {
-  meaning = h.meaning ∙ ap (λ l. fault_of (events_from number l)) is ∙ fault-further number (events_from (number + 1) (lines after)) (is_record line) (command_of (fields 32 line)) fine;
+  meaning = h.meaning ∙ ap (λ l. fault_line (events_from number l)) is ∙ fault-further number (events_from (number + 1) (lines after)) (is_record line) (command_of (fields 32 line)) fine;
   within = let so_far = h.within in omega arith;
 }
 
 fault-here : (number : ℕ) (more : Result (List Event) ℕ) (is_one : Bool) (o : Option Event) → (if is_one then is_some o else true) ≡ false →
-    fault_of (if is_one then with_command number o more else more) ≡ Some number
+    fault_line (if is_one then with_command number o more else more) ≡ Some number
 fault-here number more true None is = refl
 fault-here number more true (Some e) is = absurd (cc)
 fault-here number more false o is = absurd (cc)
 
 -- a line that is one
-pub find-fault : (script rest line after : List ℕ) (number : ℕ) → HasNoFaultSoFar script rest number → lines rest ≡ line ∷ lines after → is_command_or_skipped line ≡ false → fault_of (script_of script) ≡ Some number
+pub find-fault : (script rest line after : List ℕ) (number : ℕ) → HasNoFaultSoFar script rest number → lines rest ≡ line ∷ lines after → is_command_or_skipped line ≡ false → fault_line (script_of script) ≡ Some number
 unfolding events_from
 find-fault script rest line after number h is bad =
-    h.meaning ∙ ap (λ l. fault_of (events_from number l)) is ∙ fault-here number (events_from (number + 1) (lines after)) (is_record line) (command_of (fields 32 line)) bad
+    h.meaning ∙ ap (λ l. fault_line (events_from number l)) is ∙ fault-here number (events_from (number + 1) (lines after)) (is_record line) (command_of (fields 32 line)) bad
 
 -- the end of a script that has none
-pub no-fault : (script rest : List ℕ) (number : ℕ) → HasNoFaultSoFar script rest number → (length rest == 0) ≡ true → fault_of (script_of script) ≡ None
+pub no-fault : (script rest : List ℕ) (number : ℕ) → HasNoFaultSoFar script rest number → (length rest == 0) ≡ true → fault_line (script_of script) ≡ None
 unfolding events_from
 no-fault script [] number h none = h.meaning
 no-fault script (c ∷ rest) number h none = absurd (omega (arith, eqb-true (suc (length rest)) 0 none))
 
 -- so it says events
-pub events-of : (r : Result (List Event) ℕ) → fault_of r ≡ None → (es : List Event) × (r ≡ Ok es)
+pub events-of : (r : Result (List Event) ℕ) → fault_line r ≡ None → (es : List Event) × (r ≡ Ok es)
 events-of (Ok es) is = (es, refl)
 events-of (Err line) is = absurd (cc)
 
 -- or has its first fault there
-pub line-of : (r : Result (List Event) ℕ) (line : ℕ) → fault_of r ≡ Some line → r ≡ Err line
+pub line-of : (r : Result (List Event) ℕ) (line : ℕ) → fault_line r ≡ Some line → r ≡ Err line
 line-of (Ok es) line is = absurd (cc)
 line-of (Err other) line is = let same : other ≡ line = cc in ap Err same
 

@@ -27,6 +27,6 @@ abbrev pub is_command_or_skipped : List ℕ → Bool
 is_command_or_skipped line = if is_record line then is_some (command_of (fields 32 line)) else true
 
 -- the number of the first line of a script that is no command
-abbrev pub fault_of : Result (List Event) ℕ → Option ℕ
-fault_of (Ok es) = None
-fault_of (Err line) = Some line
+abbrev pub fault_line : Result (List Event) ℕ → Option ℕ
+fault_line (Ok es) = None
+fault_line (Err line) = Some line

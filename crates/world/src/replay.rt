@@ -275,8 +275,8 @@ fn prepare<V: Watch>(
 /// written, whatever the edge list is, and without memory. So is the plan, before memory is asked for that is told as
 /// `Memory`. After `Memory` and `Write` a beginning of the answers stands, after every other error nothing. `Edges(Read)`
 /// is not answered, and `Write` exactly where a call of the writer failed. What is said of the edge list holds for plain
-/// bytes: no byte order mark at the front, and an LF after each CR. Of other bytes the answers are those of a job of these
-/// options over some network, from its start.
+/// bytes: an LF after each CR. Of other bytes the answers are those of a job of these options over some network, from its
+/// start.
 ///
 /// Memory is the graph, a replica for each node, 32 bytes a command, and what the events keep: the bytes of each
 /// message, a replica's rows for each copy and checkpoint, and the longest line of the answers.

@@ -8,7 +8,7 @@ ghost use Rattle.ball_model.specs.WorldText.{command_of, node_from, node_in, num
 ghost use Rattle.ball_model.specs.WorldText.{one_command, part_in, replica_in, script_of};
 ghost use Rattle.ball_model.specs.WorldText.{two_command, value_from};
 ghost use Rattle.ball_model.specs.declared.world.Event.TheVariants as event;
-ghost use Rattle.world.specs.Script.{added, cut_of, fault_of, is_command_or_skipped, most};
+ghost use Rattle.world.specs.Script.{added, cut_of, fault_line, is_command_or_skipped, most};
 
 use ball_model::NodeId;
 use ball_model::world::Event;
@@ -208,7 +208,7 @@ fn is_command_or_skipped(line: &[u8]) -> bool
 
 /// The first line of a script that is no command, from 1 on. It takes no memory.
 pub(crate) fn first_fault(script: &[u8]) -> Option<u64>
-    ensures { result ≡ fault_of (script_of script.now) }
+    ensures { result ≡ fault_line (script_of script.now) }
 {
     let mut rest = script;
     let mut number = 1u64;

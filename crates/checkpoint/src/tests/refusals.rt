@@ -1,5 +1,6 @@
 //! Refused memory. A run of these tests by `rt try --test --fail-alloc N` refuses any one growth of memory: then that is
-//! told, and the same bytes are read when they are read again. Writing asks for none, so it is never refused.
+//! told, and the same bytes are read when they are read again. A text that is cut is told as such. Writing asks for no
+//! memory, so it is never refused.
 
 use super::reading::{fault, is_written};
 use super::worked::{FIRST, TWO_EARLY, TWO_EDGES};
@@ -17,6 +18,17 @@ fn is_read_again(rt: &HostRuntime, part: &Arc<Part>, bytes: &[u8], wanted: &[u8]
     }
 }
 
+/// Whether bytes without the last of them are too few, whether memory is refused or not.
+fn is_short(rt: &HostRuntime, part: &Arc<Part>, bytes: &[u8]) -> bool {
+    let (text, _) = bytes.split_at(bytes.len().max(1) - 1);
+    fault(rt, part, text) == Some(KeepError::Short)
+}
+
+/// Whether those of both checkpoints are. None where memory is refused outside of that.
+fn both_are_short(rt: &HostRuntime) -> Option<bool> {
+    Some(is_short(rt, &half(rt)?, &TWO_EARLY) && is_short(rt, &whole(rt)?, &FIRST))
+}
+
 /// Both checkpoints: that with early batches, and that of the two edges in version 1. None where memory is refused outside
 /// of that.
 fn both_again(rt: &HostRuntime) -> Option<bool> {
@@ -28,6 +40,11 @@ fn both_again(rt: &HostRuntime) -> Option<bool> {
 #[test]
 fn calls_where_memory_is_refused(rt: HostRuntime) {
     assert!(rt; both_again(&rt).or(both_again(&rt)) == Some(true));
+}
+
+#[test]
+fn cut_texts_where_memory_is_refused(rt: HostRuntime) {
+    assert!(rt; both_are_short(&rt).or(both_are_short(&rt)) == Some(true));
 }
 
 // Where memory is refused there is no replica. Where there is one, the bytes are written.

@@ -36,8 +36,9 @@ use CountedError::{Fields, Unknown};
 use Delimiter::{Comma, Tab};
 
 // A refused list leaves those counted that were, which are all at first, and another list replaces one. Comments and
-// empty lines have no number. One vertex; all of them, one twice and in another order; none; both ends of lines.
-static LISTS: [List<'static>; 14] = [
+// empty lines have no number. One vertex; all of them, one twice and in another order; none; both ends of lines. A byte
+// order mark at the front is skipped, and no other.
+static LISTS: [List<'static>; 18] = [
     (b"# c\nz", Tab, Err(Unknown { number: 1 }), b"012"),
     (b"a\tb", Tab, Err(Fields { number: 1 }), b"012"),
     (b"a\n\n\t\n", Tab, Err(Fields { number: 2 }), b"012"),
@@ -52,6 +53,10 @@ static LISTS: [List<'static>; 14] = [
     (b"a\nb", Tab, Ok(()), b"01"),
     (b"c\nz", Tab, Err(Unknown { number: 2 }), b"01"),
     (b"c", Comma, Ok(()), b"2"),
+    (b"\xef\xbb\xbfb\r\n", Tab, Ok(()), b"1"),
+    (b"\xef\xbb\xbf", Tab, Ok(()), b""),
+    (b"\xef\xbb\xbf# a\nc", Tab, Ok(()), b"2"),
+    (b"b\n\xef\xbb\xbfa", Tab, Err(Unknown { number: 2 }), b"2"),
 ];
 
 // Labels that begin alike, with quotes, of bytes that are no text, and of one space.

@@ -96,8 +96,8 @@ pub(super) fn are_told(rt: &HostRuntime, cases: &[Case<'_>]) -> bool {
     right
 }
 
-// 16,384 lines of 4 bytes are read at once, 40,000 in three times. What would be a byte order mark at the front of a
-// text is an ordinary label behind it. A record is refused. Labels of 300 bytes.
+// 16,384 lines of 4 bytes are read at once, 40,000 in three times. A byte order mark is skipped at the front of a
+// text, and is part of a label in a later piece. A record is refused. Labels of 300 bytes.
 static LONG: [Case<'static>; 7] = [
     (
         &[(b"a\tb\n", 16_383), (b"b\tc\n# end", 1)],

@@ -31,8 +31,9 @@ fn are_told(rt: &HostRuntime) -> bool {
 use Delimiter::{Comma, Space, Tab};
 
 // A comment, both ends of lines, a double and a self-loop; no end of the last line, and a comment in its place; one
-// vertex, and none; other delimiters; quotes, bytes that are no text, and one space.
-static CASES: [Case<'static>; 28] = [
+// vertex, and none; other delimiters; quotes, bytes that are no text, and one space. A byte order mark in front of lines,
+// of nothing and of a comment is skipped; a second one, one in a later line and the beginning of one are labels' bytes.
+static CASES: [Case<'static>; 34] = [
     (TWO_EDGES, Tab, 9, 9, Ok(TWO_LINES)),
     (
         b"# c\r\na\tb\r\nb\tc\r\na\tb\r\nb\tb\r\n",
@@ -65,6 +66,18 @@ static CASES: [Case<'static>; 28] = [
         9,
         Ok(b"\"x\nq\" 0\ny\"\"z\n\xff\xc0\n  3\n"),
     ),
+    (b"\xef\xbb\xbfa\tb\r\nb\tc\r\n", Tab, 9, 9, Ok(TWO_LINES)),
+    (b"\xef\xbb\xbf", Tab, 9, 9, Ok(b"")),
+    (b"\xef\xbb\xbf# c\na\tb\nb\tc", Tab, 9, 9, Ok(TWO_LINES)),
+    (
+        b"\xef\xbb\xbf\xef\xbb\xbfa\n",
+        Tab,
+        9,
+        9,
+        Ok(b"\xef\xbb\xbfa\n"),
+    ),
+    (b"\n\xef\xbb\xbfa\n", Tab, 9, 9, Ok(b"\xef\xbb\xbfa\n")),
+    (b"\xef\xbb\ta", Tab, 9, 9, Ok(b"\xef\xbb\na 0\n")),
     // Limits; the number of records is tested before the fields, and the fields before the number of vertices.
     // Neither comments nor empty lines are numbered; doubles and single labels are. No field is empty.
     (TWO_EDGES, Tab, 3, 2, Ok(TWO_LINES)),
@@ -148,9 +161,11 @@ fn fails_at_each(rt: &HostRuntime, case: &Calls<'_>) -> bool {
 // The two edges with CRLF: ten bytes, which with the end take eleven calls.
 const TEN_BYTES: &[u8] = b"a\tb\r\nb\tc\r\n";
 
-// Where all bytes come at once the end is asked for twice. A record is refused once its LF was read, and no call follows.
-static CALLS: [Calls<'static>; 5] = [
+// A byte order mark that comes byte by byte is skipped. Where all bytes come at once the end is asked for twice. A record
+// is refused once its LF was read, and no call follows.
+static CALLS: [Calls<'static>; 6] = [
     (TEN_BYTES, 1, 2, 11, Ok(&[(TWO_LINES, 1)])),
+    (b"\xef\xbb\xbfa\tb\nb\tc\n", 1, 2, 12, Ok(&[(TWO_LINES, 1)])),
     (TWO_EDGES, usize::MAX, 9, 3, Ok(&[(TWO_LINES, 1)])),
     (
         b"a\tb\tc\nd\te\n",

@@ -15,9 +15,12 @@ fn is_refused(case: &Case, end: &End) -> bool {
 
 /// Whether words are served, at once or when they are served again.
 fn is_served_again<H: Host>(rt: &H, case: &Case) -> bool {
-    let end = end_in(rt, case, &OPEN, &[]);
+    let end = end_in(rt, case, &OPEN);
     is_right(case, &end) || is_refused(case, &end) && ends(rt, case)
 }
+
+/// What is told of a text that is no list of orders.
+const ORDERS: &[u8] = b"hyperball: an order is P.K@S, with commas between orders\n";
 
 static REFUSABLE: [Case; 9] = [
     (RUN, &[EDGES], 0, &[REPORT], b""),
@@ -39,12 +42,12 @@ static REFUSABLE: [Case; 9] = [
         &[b"closed 1\nsuperstep,0,33.803869\nsuperstep,1,34.851860\nrestarted 0\n"],
         b"",
     ),
-    nodes::GATHERED,
+    GATHERED,
     // what clap tells is told whole, or not at all
-    words::VERSION,
+    VERSION,
     ("hyperball replays", &[EDGES], 2, &[], b"error: "),
     ("hyperball run --log2m x", &[EDGES], 2, &[], b"error: "),
-    ("hyperball run --lose 0.0@", &[EDGES], 2, &[], words::ORDERS),
+    ("hyperball run --lose 0.0@", &[EDGES], 2, &[], ORDERS),
 ];
 
 #[test]

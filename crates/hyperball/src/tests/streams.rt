@@ -67,10 +67,7 @@ static READ: [(Case, Case); 5] = [
         (NODE, &[MARKED, b"close\n"], 0, &[b"closed 1\n"], b""),
         (NODE, &[MARKED, b"close\n"], 1, &[b"closed 1\n"], UNREAD),
     ),
-    (
-        nodes::GATHERED,
-        (nodes::GATHER_BOTH, nodes::BOTH_KEPT, 1, &[], UNREAD),
-    ),
+    (GATHERED, (GATHER_BOTH, BOTH_KEPT, 1, &[], UNREAD)),
 ];
 
 /// Whether what is read ends so where so many reads go well: all are needed, and the one that finds the end. A read that
@@ -78,7 +75,7 @@ static READ: [(Case, Case); 5] = [
 fn ends_after<H: Host>(rt: &H, whole: &Case, cut: &Case, reads: u64) -> bool {
     let is_read = reads > length_of(whole.1) as u64;
     let case = if is_read { whole } else { cut };
-    let end = end_in(rt, case, &reading(reads), &[]);
+    let end = end_in(rt, case, &reading(reads));
     let is_all = end.output.is_front() && (!is_read || end.output.has_all());
     is_told(case, &end) && is_all && end.failures == u64::from(!is_read)
 }
@@ -120,8 +117,8 @@ row 1 11.115354 0.000000 0.000000 00000000000001000000000000000000
         &[b"closed 1\nrefused no-target\nclosed 2\n"],
         b"",
     ),
-    nodes::GATHERED,
-    words::VERSION,
+    GATHERED,
+    VERSION,
 ];
 
 /// Whether so much room is filled, and it is told that the output cannot be written where that is too little. A write
@@ -134,7 +131,7 @@ fn fills<H: Host>(rt: &H, case: &Case, room: usize) -> bool {
         (case.2, case.4)
     };
     let wanted = (case.0, case.1, status, case.3, fault);
-    let end = end_in(rt, &wanted, &writing(room), &[]);
+    let end = end_in(rt, &wanted, &writing(room));
     let is_full = end.output.is_front() && end.output.taken() == room;
     is_told(&wanted, &end) && is_full && end.failures == u64::from(fails)
 }

@@ -1,4 +1,4 @@
-use Rattle.std.proofs.Common.{◌+◌, ◌∙◌, ap, refl, sym, subst, inl, inr}
+use Rattle.std.proofs.Common.{◌≡◌, ◌+◌, ◌∙◌, ap, refl, sym, subst, inl, inr}
 use Rattle.std.specs.Prelude.{Some}
 use Rattle.std.proofs.lemmas.Result.{err_from_is_err_and}
 use Rattle.ball_model.specs.Checkpoint.{checkpoint_bytes, without_names}
@@ -76,6 +76,16 @@ returns-in_err-rebuild-clause-within g c =
 pub returns-in_err-rebuild-clause-front : goal.returns-in_err-rebuild-clause-front
 returns-in_err-rebuild-clause-front g c = λ bytes known.
     whatever_it_is _ (subst (λ (p : PartValue). HasHead p bytes) c.deref.ensures (c.in_ok-saved.ensures.front bytes known))
+
+pub returns-in_err-saved-clause-whole : goal.returns-in_err-saved-clause-whole
+returns-in_err-saved-clause-whole g c =
+    let e = err_from_is_err_and c.from_residual.result c.from_residual.ensures.1 in
+    rw (e.1, e.2) (subst (λ (p : PartValue). c.in_err-saved.field-0.0 ≡ errors.Memory → Ends g.R.Read.remaining g.R.CountedRead.failed_calls (sealed_form p) (most_checkpoint_bytes p p.plan.limit + 1) c.args.reader.now c.read_saved.new.reader)
+    c.deref.ensures c.in_err-saved.ensures.done)
+
+pub returns-in_err-rebuild-clause-whole : goal.returns-in_err-rebuild-clause-whole
+returns-in_err-rebuild-clause-whole g c =
+    whatever_it_is _ (subst (λ (p : PartValue). Ends g.R.Read.remaining g.R.CountedRead.failed_calls (sealed_form p) (most_checkpoint_bytes p p.plan.limit + 1) c.args.reader.now c.read_saved.new.reader) c.deref.ensures c.in_ok-saved.ensures.done)
 
 pub returns-clause-whole : goal.returns-clause-whole
 returns-clause-whole g c =

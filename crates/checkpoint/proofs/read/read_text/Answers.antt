@@ -1,4 +1,4 @@
-use Rattle.std.proofs.Common.{◌≡◌, ◌+◌, ◌++◌, ℕ, List, ◌∙◌, ap, refl, sym, subst, arith}
+use Rattle.std.proofs.Common.{◌≡◌, ◌≤◌, ◌+◌, ◌++◌, ℕ, List, [], length, take, ◌∙◌, ap, refl, sym, subst, arith}
 use Rattle.std.specs.Prelude.{IsOk, Result}
 use Rattle.std.specs.Io.KnownBytes.{Consumes}
 use Rattle.std.proofs.KnownBytes.{Consumes-trans}
@@ -7,49 +7,63 @@ use Rattle.std.proofs.lemmas.Result.{err_from_is_err_and}
 use Rattle.sha2.specs.Sha256.{sha256}
 use Rattle.sha2.proofs.Facts256.{length-sha256}
 use Rattle.checkpoint.specs.declared.error.KeepError.{KeepError}
-use Rattle.checkpoint.specs.Reading.{seal_form, most_checkpoint_bytes}
-use Rattle.checkpoint.proofs.ReaderLemmas.{fails_first, fails_second, fails_as, passes-seal, whatever_it_is, whole_fine, whole_read, whole_sealed, within-more, within-seal}
+use Rattle.checkpoint.specs.Reading.{checkpoint_head_at, seal_form, most_checkpoint_bytes}
+use Rattle.checkpoint.proofs.ReaderLemmas.{fails_first, fails_second, text_kept, whole_fine, whole_read, whole_sealed, within-more, within-seal}
 use Rattle.checkpoint.proofs.read.read_text.Goals as goal
 
 pub returns-in_err-header-clause-fails : goal.returns-in_err-header-clause-fails
 returns-in_err-header-clause-fails g c =
     let part = c.args.part.now in
     let r = err_from_is_err_and c.from_residual.result c.from_residual.ensures.1 in
-    rw (r.1, r.2) (fails_first seal_form (most_checkpoint_bytes part part.plan.limit + 1) (omega arith) (λ _ bytes _. passes-seal bytes) c.in_err-header.ensures.fails)
+    rw (r.1, r.2) (fails_first seal_form (most_checkpoint_bytes part part.plan.limit + 1) (omega arith) c.in_err-header.ensures.fails)
 
 pub returns-in_err-read_seal-clause-fails : goal.returns-in_err-read_seal-clause-fails
 returns-in_err-read_seal-clause-fails g c =
     let part = c.args.part.now in
-    let p = c.in_ok-header.ensures.done in
-    let is : p.piece ≡ c.deref.result.now = sym (c.deref.ensures.value ∙ p.grown ∙ ap (λ (l : List ℕ). l ++ p.piece) c.requires) in
+    let p = c.in_ok-header.ensures.done.grows in
+    let right = c.digest-right.ensures.value p.piece (p.grown.digested [] c.requires.hasher) in
     let r = err_from_is_err_and c.from_residual-in_err-read_seal.result c.from_residual-in_err-read_seal.ensures.1 in
-    rw (r.1, r.2) (fails_second seal_form (most_checkpoint_bytes part part.plan.limit + 1) p (omega arith)
-    (fails_as (seal_form p.piece) 33 (λ bytes. ap (λ (l : List ℕ). seal_form l bytes) is) (omega arith) c.in_err-read_seal.ensures.fails))
+    rw (r.1, r.2) (fails_second seal_form (most_checkpoint_bytes part part.plan.limit + 1) p (omega arith) (c.in_err-read_seal.ensures.fails p.piece right))
 
 pub returns-clause-done : goal.returns-clause-done
 returns-clause-done g c =
     let part = c.args.part.now in
-    let p = c.in_ok-header.ensures.done in
-    let text = c.deref.result.now in
-    let is : p.piece ≡ text = sym (c.deref.ensures.value ∙ p.grown ∙ ap (λ (l : List ℕ). l ++ p.piece) c.requires) in
+    let p = c.in_ok-header.ensures.done.grows in
+    let text = p.piece in
+    let right = c.digest-right.ensures.value text (p.grown.digested [] c.requires.hasher) in
+    let seal = subst (λ (l : List ℕ). Consumes (g.R.Read.remaining c.read_content.new.reader) (g.R.Read.remaining c.read_seal.new.reader) l) right c.in_ok-read_seal.ensures.done in
     record {
       few = record {
-        bytes = p.piece ++ sha256 text;
-        consumed = Consumes-trans (g.R.Read.remaining c.args.reader.now) (g.R.Read.remaining c.read_content.new.reader) (g.R.Read.remaining c.read_seal.new.reader) p.piece (sha256 text) p.takes.consumed c.in_ok-read_seal.ensures.done;
-        few = omega (arith, length-append p.piece (sha256 text), length-sha256 text, p.few);
+        bytes = text ++ sha256 text;
+        consumed = Consumes-trans (g.R.Read.remaining c.args.reader.now) (g.R.Read.remaining c.read_content.new.reader) (g.R.Read.remaining c.read_seal.new.reader) text (sha256 text) p.takes.consumed seal;
+        few = omega (arith, length-append text (sha256 text), length-sha256 text, p.few);
       };
       end = c.in_ok-read_seal.ensures.end;
       counted = c.in_ok-read_seal.ensures.counted ∙ p.takes.counted;
-      whole = whole_read part p text is (length-sha256 text);
-      is_form = λ bytes known. subst (λ (r : Result ℕ KeepError). IsOk r) (sym (whole_fine c.read_seal.new.reader part text p is c.in_ok-read_seal.ensures.done c.in_ok-read_seal.ensures.end (length-sha256 text) bytes known)) refl;
+      whole = whole_read part p (length-sha256 text);
+      is_form = λ bytes known. subst (λ (r : Result ℕ KeepError). IsOk r) (sym (whole_fine c.read_seal.new.reader part p seal c.in_ok-read_seal.ensures.end (length-sha256 text) bytes known)) refl;
     }
 
 pub returns-clause-sealed : goal.returns-clause-sealed
-returns-clause-sealed g c = λ bytes known.
+returns-clause-sealed g c = λ whole bytes known.
+    let p = c.in_ok-header.ensures.done.grows in
+    let text = p.piece in
+    let right = c.digest-right.ensures.value text (p.grown.digested [] c.requires.hasher) in
+    let seal = subst (λ (l : List ℕ). Consumes (g.R.Read.remaining c.read_content.new.reader) (g.R.Read.remaining c.read_seal.new.reader) l) right c.in_ok-read_seal.ensures.done in
+    let kept = c.digest-right.ensures.bytes ∙ text_kept p.grown c.requires (sym c.digest-right.ensures.whole ∙ whole) in
+    subst (λ (l : List ℕ). bytes ≡ l ++ sha256 l) (sym kept) (whole_sealed c.read_seal.new.reader p seal c.in_ok-read_seal.ensures.end bytes known)
+
+pub returns-clause-head : goal.returns-clause-head
+returns-clause-head g c = λ whole.
     let p = c.in_ok-header.ensures.done in
-    let text = c.deref.result.now in
-    let is : p.piece ≡ text = sym (c.deref.ensures.value ∙ p.grown ∙ ap (λ (l : List ℕ). l ++ p.piece) c.requires) in
-    subst (λ (l : List ℕ). bytes ≡ l ++ sha256 l) c.deref.ensures.value (whole_sealed c.read_seal.new.reader text p is c.in_ok-read_seal.ensures.done c.in_ok-read_seal.ensures.end bytes known)
+    let kept = c.digest-right.ensures.bytes ∙ text_kept p.grows.grown c.requires (sym c.digest-right.ensures.whole ∙ whole) in
+    p.head ∙ ap (λ (l : List ℕ). checkpoint_head_at (take 54 l)) (sym kept)
+
+pub returns-clause-length : goal.returns-clause-length
+returns-clause-length g c = λ whole.
+    let p = c.in_ok-header.ensures.done in
+    let kept = c.digest-right.ensures.bytes ∙ text_kept p.grows.grown c.requires (sym c.digest-right.ensures.whole ∙ whole) in
+    subst (λ (l : List ℕ). 54 ≤ length l) (sym kept) p.long
 
 pub returns-in_err-header-clause-within : goal.returns-in_err-header-clause-within
 returns-in_err-header-clause-within g c = within-more c.args.part.now _ _ c.in_err-header.ensures.within
@@ -57,35 +71,18 @@ returns-in_err-header-clause-within g c = within-more c.args.part.now _ _ c.in_e
 pub returns-in_err-read_seal-clause-within : goal.returns-in_err-read_seal-clause-within
 returns-in_err-read_seal-clause-within g c =
     let p = c.in_ok-header.ensures.done in
-    let is = p.grown ∙ ap (λ (l : List ℕ). l ++ p.piece) c.requires in
-    within-seal c.args.part.now _ _ _ c.read_content.new.text.items c.in_ok-header.ensures.length c.in_ok-header.ensures.few
-    (subst (λ (l : List ℕ). Consumes (g.R.Read.remaining c.args.reader.now) (g.R.Read.remaining c.read_content.new.reader) l) (sym is) p.takes.consumed) c.in_err-read_seal.ensures.fails.few
+    let text = p.grows.piece in
+    let right = c.digest-right.ensures.value text (p.grows.grown.digested [] c.requires.hasher) in
+    within-seal c.args.part.now _ _ _ text p.long p.few p.grows.takes.consumed (c.in_err-read_seal.ensures.fails text right).few
 
 pub returns-clause-within : goal.returns-clause-within
 returns-clause-within g c =
     let p = c.in_ok-header.ensures.done in
-    let text = c.deref.result.now in
-    let is = p.grown ∙ ap (λ (l : List ℕ). l ++ p.piece) c.requires in
-    within-seal c.args.part.now _ _ _ c.read_content.new.text.items c.in_ok-header.ensures.length c.in_ok-header.ensures.few
-    (subst (λ (l : List ℕ). Consumes (g.R.Read.remaining c.args.reader.now) (g.R.Read.remaining c.read_content.new.reader) l) (sym is) p.takes.consumed)
-    (record { bytes = sha256 text; consumed = c.in_ok-read_seal.ensures.done; few = omega (arith, length-sha256 text) })
-
-pub returns-in_err-header-clause-front : goal.returns-in_err-header-clause-front
-returns-in_err-header-clause-front g c = λ bytes known.
-    let r = err_from_is_err_and c.from_residual.result c.from_residual.ensures.1 in
-    rw (r.1, r.2) (c.in_err-header.ensures.front bytes known)
-
-pub returns-in_err-read_seal-clause-front : goal.returns-in_err-read_seal-clause-front
-returns-in_err-read_seal-clause-front g c = λ bytes known. whatever_it_is _ (c.in_ok-header.ensures.front bytes known)
+    within-seal c.args.part.now _ _ _ p.grows.piece p.long p.few p.grows.takes.consumed
+    (record { bytes = c.digest-right.result; consumed = c.in_ok-read_seal.ensures.done; few = omega arith })
 
 pub returns-clause-front : goal.returns-clause-front
 returns-clause-front g c = λ bytes known. c.in_ok-header.ensures.front bytes known
-
-pub returns-clause-head : goal.returns-clause-head
-returns-clause-head g c = c.in_ok-header.ensures.head
-
-pub returns-clause-length : goal.returns-clause-length
-returns-clause-length g c = c.in_ok-header.ensures.length
 
 pub returns-clause-checked : goal.returns-clause-checked
 returns-clause-checked g c = c.in_ok-header.ensures.checked

@@ -5,7 +5,7 @@ use Rattle.checkpoint.proofs.ReaderLemmas.{walks_none, walks_next, walks_fails, 
 use Rattle.checkpoint.proofs.stream.read_batches.Goals as goal
 
 pub loop-init : goal.loop-init
-loop-init g c = walks_none g.R.Read.remaining g.R.CountedRead.failed_calls g.R.CountedRead.sure_calls c.args.plan.now c.args.count (8 + greatest_batch c.args.plan.now) c.args.reader.now c.args.text.now.items
+loop-init g c = walks_none g.R.Read.remaining g.R.CountedRead.failed_calls g.R.CountedRead.sure_calls c.args.plan.now c.args.count (8 + greatest_batch c.args.plan.now) c.args.reader.now c.args.text.now
 
 pub returns-in_err-read_batch-clause-fails : goal.returns-in_err-read_batch-clause-fails
 returns-in_err-read_batch-clause-fails g c =

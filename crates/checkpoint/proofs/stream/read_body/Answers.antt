@@ -2,7 +2,7 @@ use Rattle.std.proofs.Common.{◌≡◌, arith, ne_eqb}
 use Rattle.std.proofs.lemmas.Result.{err_from_is_err_and, IfErr-weaker, on_ok_weaker}
 use Rattle.std.specs.Prelude.{◌==◌, false}
 use Rattle.checkpoint.specs.Reading.{most_after, most_early, held_form}
-use Rattle.checkpoint.proofs.ReaderLemmas.{fails_first, fails_second, fails_as, grows_then, grows_as, grows_none, held-none, held-some, fixed-most, fixed-early, passes-held}
+use Rattle.checkpoint.proofs.ReaderLemmas.{fails_first, fails_second, fails_as, grows_then, grows_as, grows_none, held-none, held-some, fixed-most, fixed-early}
 use Rattle.checkpoint.proofs.stream.read_body.Goals as goal
 
 pub returns-in_err-read_more-clause-fails : goal.returns-in_err-read_more-clause-fails
@@ -11,7 +11,7 @@ returns-in_err-read_more-clause-fails g c =
     let h = c.args.header.now in
     let q = rw c.fixed_len.ensures at c.in_err-read_more.ensures.fails in
     let p = err_from_is_err_and c.from_residual.result c.from_residual.ensures.1 in
-    rw (p.1, p.2) (fails_first (λ _. held_form part.plan h.version) (most_after part h) (fixed-most part h) (λ _ bytes _. passes-held part.plan h.version) q)
+    rw (p.1, p.2) (fails_first (λ _. held_form part.plan h.version) (most_after part h) (fixed-most part h) q)
 
 pub returns-then-header-eq1-clause-done : goal.returns-then-header-eq1-clause-done
 returns-then-header-eq1-clause-done g c =
@@ -19,7 +19,7 @@ returns-then-header-eq1-clause-done g c =
     let h = c.args.header.now in
     let p = rw c.fixed_len.ensures at c.in_ok-read_more.ensures.done in
     grows_then {most = 0} (λ _. held_form part.plan h.version) (most_after part h) p (omega (arith, fixed-most part h))
-    (grows_none g.R.Read.remaining g.R.CountedRead.failed_calls g.R.CountedRead.sure_calls c.read_more.new.reader c.read_more.new.text.items (held_form part.plan h.version) 0 (λ rest. held-none part.plan h.version rest c.if-header-eq1.true))
+    (grows_none g.R.Read.remaining g.R.CountedRead.failed_calls g.R.CountedRead.sure_calls c.read_more.new.reader c.read_more.new.text (held_form part.plan h.version) 0 (λ rest. held-none part.plan h.version rest c.if-header-eq1.true))
 
 pub returns-clause-done : goal.returns-clause-done
 returns-clause-done g c =

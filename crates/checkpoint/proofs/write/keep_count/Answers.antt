@@ -1,6 +1,5 @@
-use Rattle.std.proofs.Common.{List, length, ap, arith}
+use Rattle.std.proofs.Common.{arith}
 use Rattle.std.proofs.lemmas.Result.{on_ok_weaker, on_err_weaker}
-use Rattle.ball_model.specs.Batches.{BatchValue}
 use Rattle.checkpoint.proofs.SpoolLemmas.{passes_as, stops_as}
 use Rattle.checkpoint.proofs.TextLemmas.{count_is, early_few}
 use Rattle.checkpoint.proofs.write.keep_count.Goals as goal

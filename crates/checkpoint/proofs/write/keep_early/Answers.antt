@@ -1,6 +1,5 @@
-use Rattle.std.proofs.Common.{◌≤◌, List, suc, drop, length, ap, arith}
+use Rattle.std.proofs.Common.{◌≤◌, suc, drop, length, ap, arith}
 use Rattle.std.proofs.lemmas.List.{take_all}
-use Rattle.ball_model.specs.Batches.{BatchValue}
 use Rattle.std.specs.List.{flat_map}
 use Rattle.ball_model.specs.Checkpoint.{early_bytes, kept_batches}
 use Rattle.ball_model.proofs.CheckLemmas.{on_err}

@@ -1,6 +1,6 @@
 use Rattle.std.proofs.Common.{inr}
 use Rattle.edgelist.specs.Reading.{byte_of}
-use Rattle.edgelist.proofs.RecordLemmas.{is_delimiter, unmarked-whole, left-start}
+use Rattle.edgelist.proofs.RecordLemmas.{is_delimiter, left-start}
 use Rattle.edgelist.proofs.records.reader_of.Goals as goal
 
 pub returns : goal.returns
@@ -11,4 +11,4 @@ returns g c = λ text known plain.
     let flexible = rw (c.delimiter.ensures, c.comment.ensures, c.quoting.ensures, c.flexible.ensures) at h.flexible in
     let trims = rw (c.delimiter.ensures, c.comment.ensures, c.quoting.ensures, c.flexible.ensures, c.has_headers.ensures, c.new.ensures.trim) at h.trim in
     left-start g.R.Read.remaining (byte_of c.args.delimiter) text c.from_reader.result (is_delimiter c.args.delimiter) plain.ends
-    trims (inr (inr (named, h.headers))) configured flexible h.state (rw (known, unmarked-whole text plain.unmarked) at h.source)
+    trims (inr (inr (named, h.headers))) configured flexible h.state (rw known at h.source)

@@ -31,5 +31,5 @@ returns-in_err-run-clause-refused g c =
     let e = c.in_err-run.field-0.0 in
     rw (p.1, p.2) (
       c.in_err-run.ensures.fault,
-      subst (λ (b : Bool). IfSome told (λ input. RefusesInput s b input e)) (sym c.if-counted.false) (refuses_edges s told e c.in_err-run.ensures.refused),
+      subst (λ (b : Bool). IfSome told (λ input. RefusesInput s b input e)) (sym c.if-counted.false) (refuses_edges s told e c.in_err-run.ensures.of_edges c.in_err-run.ensures.refused),
     )

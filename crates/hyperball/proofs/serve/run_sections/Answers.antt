@@ -1,4 +1,4 @@
-use Rattle.std.proofs.Common.{arith, subst}
+use Rattle.std.proofs.Common.{arith, refl, subst}
 use Rattle.std.specs.Prelude.{Some}
 use Rattle.std.proofs.lemmas.Result.{err_from_is_err_and}
 use Rattle.ball_model.specs.RunText.{AppendsReport, ArePlain, Settings}
@@ -23,7 +23,7 @@ returns-in_err-run-clause-refused g c =
     rw (p.1, p.2) (
       c.in_err-run.ensures.fault,
       refuses_both (run_settings_of c.args.options.now) c.args.input.now c.in-Some.edges.now c.new-edges.result.left.now c.in-Some.list.now c.in_err-run.field-0.0
-          c.in-Some.ensures c.new-edges.ensures c.in_err-run.ensures.refused,
+          c.in-Some.ensures c.new-edges.ensures (c.in_err-run.ensures.of_edges c.new-edges.result.left.now refl) c.in_err-run.ensures.refused,
     )
 
 pub returns-in_err-run-clause-edges : goal.returns-in_err-run-clause-edges

@@ -21,6 +21,9 @@ returns-clause-spells c =
 pub returns-clause-front : goal.returns-clause-front
 returns-clause-front c = c.read_checkpoint.ensures.front c.args.bytes.now (ap Some c.new-reader.ensures.left)
 
+pub returns-clause-form : goal.returns-clause-form
+returns-clause-form c = form_told _ _ (arc_value c.args.part) _ _ _ c.args.bytes.now c.read_checkpoint.result (ap Some c.new-reader.ensures.left) c.read_checkpoint.ensures.whole
+
 pub returns-clause-whole : goal.returns-clause-whole
 returns-clause-whole c =
     checkpoint_told (arc_value c.args.part) c.args.bytes.now c.read_checkpoint.result c.read_checkpoint.ensures.part c.read_checkpoint.ensures.keepable

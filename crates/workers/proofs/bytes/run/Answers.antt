@@ -1,6 +1,7 @@
 use Rattle.std.proofs.lemmas.Result.{err_from_is_err_and}
 use Rattle.workers.proofs.PathLemmas.{err_as}
-use Rattle.workers.proofs.RunLemmas.{unwritten, wrote}
+use Rattle.workers.specs.Options.{run_settings_of}
+use Rattle.workers.proofs.RunLemmas.{listed_edges, unwritten, unwritten_edges, wrote}
 use Rattle.workers.proofs.bytes.run.Goals as goal
 
 pub returns-in_err-text-clause-refused : goal.returns-in_err-text-clause-refused
@@ -33,3 +34,19 @@ returns-clause-refused g c = unwritten c.args.options.now (g.R.Read.remaining c.
 
 pub returns-clause-ok : goal.returns-clause-ok
 returns-clause-ok g c = wrote c.args.options.now (g.R.Read.remaining c.args.reader.now) c.args.counted g.W.Write.contents c.args.writer.now c.write_text.new.writer c.in_ok-text.text c.write_text.result c.in_ok-text.ensures.ok c.write_text.ensures.done
+
+pub returns-in_err-text-clause-edges : goal.returns-in_err-text-clause-edges
+returns-in_err-text-clause-edges g c =
+    let p = err_from_is_err_and c.from_residual.result c.from_residual.ensures.1 in
+    λ input is plain. rw (p.1) tt
+
+pub returns-in_err-text-clause-of_edges : goal.returns-in_err-text-clause-of_edges
+returns-in_err-text-clause-of_edges g c =
+    let p = err_from_is_err_and c.from_residual.result c.from_residual.ensures.1 in
+    rw (p.1, p.2) c.in_err-text.ensures.of_edges
+
+pub returns-clause-edges : goal.returns-clause-edges
+returns-clause-edges g c = listed_edges (run_settings_of c.args.options.now) (g.R.Read.remaining c.args.reader.now) c.write_text.result c.in_ok-text.ensures.edges
+
+pub returns-clause-of_edges : goal.returns-clause-of_edges
+returns-clause-of_edges g c = unwritten_edges (run_settings_of c.args.options.now) (g.R.Read.remaining c.args.reader.now) c.write_text.result c.in_ok-text.ensures.edges c.write_text.ensures.kind

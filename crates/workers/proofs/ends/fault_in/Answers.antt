@@ -1,8 +1,8 @@
-use Rattle.std.proofs.Common.{◌≡◌, ◌∙◌, ◌+◌, ◌&&◌, [], ◌∷◌, Bool, ℕ, ap, drop, false, subst, sym}
+use Rattle.std.proofs.Common.{◌≡◌, ◌∙◌, ◌+◌, ◌&&◌, [], ◌∷◌, Bool, ℕ, ap, drop, subst, sym}
 use Rattle.std.proofs.lemmas.List.{drop_all, drop_more}
 use Rattle.std.specs.List.{list_any}
 use Rattle.workers.specs.Job.{IsPartEnd}
-use Rattle.workers.specs.Ends.{each_has_done, fault_of, faults_in, is_done, with_part}
+use Rattle.workers.specs.Ends.{each_has_done, fault_noted, faults_in, is_done, with_part}
 use Rattle.workers.proofs.EndsLemmas.{all_noted_more, complete_end, complete_more, fault_told, parts_end, with_parts}
 use Rattle.workers.proofs.JobLemmas.{AllSoFar, all_so_far_more}
 use Rattle.workers.proofs.ends.fault_in.Goals.{then-note_part, else-note_part}
@@ -40,4 +40,4 @@ returns-else-complete-clause-exact c =
     let none : drop c.loop-own.own-index xs ≡ [] = drop_all c.loop-own.own-index xs c.loop-own-test.false in
     fault_told (λ own. own.items) xs c.first.result
     (complete_end (λ own. own.items) _ xs c.loop-own.complete none h.complete c.if-complete.false)
-    (c.first.ensures.exact ∙ ap fault_of (parts_end (λ own. own.items) c.loop-own.p _ xs c.loop-own.faults none h.noted))
+    (c.first.ensures.exact ∙ ap fault_noted (parts_end (λ own. own.items) c.loop-own.p _ xs c.loop-own.faults none h.noted))

@@ -5,9 +5,10 @@ use Rattle.ball_model.specs.Job.{Job}
 use Rattle.workers.specs.declared.superstep.SuperstepEnd.{SuperstepEnd}
 use Rattle.workers.specs.Node.{FallsDue}
 use Rattle.workers.specs.Superstep.{HasStarved, IsSuperstepEnd}
+use Rattle.workers.specs.Tie.{KeptIfTold}
 use Rattle.ball_model.proofs.CheckLemmas.{on_err}
-use Rattle.workers.proofs.PathLemmas.{come_nowhere, come_then, err_not_as, gone_then, ok_is_no_err}
-use Rattle.workers.proofs.SeenLemmas.{caller_of, extends_self, extends_trans, starved_before, told_before}
+use Rattle.workers.proofs.PathLemmas.{come_nowhere, err_not_as, left_by, left_then, ok_is_no_err, path_then}
+use Rattle.workers.proofs.SeenLemmas.{caller_of, extends_self, extends_trans, kept_before, starved_before, told_before}
 use Rattle.workers.proofs.SuperstepLemmas.{done_of, part_later, stands_back, stands_later}
 use Rattle.workers.proofs.node.go_on.Goals as goal
 
@@ -20,7 +21,14 @@ returns-in-Over-clause-fate g c =
     let r = c.run_superstep.new.replica in
     let end = subst (λ (t : SuperstepEnd). IsSuperstepEnd (caller c.loop.exchange) p r t w) c.in-Over.is c.in_ok-run_superstep.ensures.end in
     let stands = stands_back v (caller c.loop.exchange) p r c.loop.invariant.0 c.in_ok-run_superstep.ensures.stands in
-    (told_before v _ w _ p c.loop.invariant.0 end.0, (done_of v.seen.job p r stands end.1, λ due. c.falls_due.ensures.spared c.if-falls_due.false (subst (FallsDue c.args.orders.now.lose) (c.in_ok-run_superstep.ensures.over c.in-Over.is ∙ sym c.superstep-superstep.ensures.value) due)))
+    let keep : ℕ = c.args.orders.now.keep in
+    let same = c.in_ok-run_superstep.ensures.stays (λ next. let both = sym next ∙ c.in-Over.is in absurd (cc)) in
+    let kept = kept_before keep c.loop.replica.superstep v _ w c.loop.invariant.0 c.in_ok-run_superstep.ensures.kept in (
+      told_before v _ w _ p c.loop.invariant.0 end.0,
+      subst (λ (s : ℕ). KeptIfTold keep v s w) (sym same) kept,
+      done_of v.seen.job p r stands end.1,
+      λ due. c.falls_due.ensures.spared c.if-falls_due.false (subst (FallsDue c.args.orders.now.lose) (same ∙ sym c.superstep-superstep.ensures.value) due),
+    )
 
 pub returns-in-Starved-clause-fate : goal.returns-in-Starved-clause-fate
 returns-in-Starved-clause-fate g c =
@@ -31,25 +39,30 @@ returns-in-Starved-clause-fate g c =
     let q : ℕ = c.in-Starved.source in
     let r = c.run_superstep.new.replica in
     let end = subst (λ (t : SuperstepEnd). IsSuperstepEnd (caller c.loop.exchange) p r t w) c.in-Starved.is c.in_ok-run_superstep.ensures.end in
-    subst (λ (s : ℕ). HasStarved v s q p w) (sym c.superstep-superstep-in-Starved.ensures.value) (starved_before v _ w _ q p c.loop.invariant.0 end)
+    let keep : ℕ = c.args.orders.now.keep in
+    let same = c.in_ok-run_superstep.ensures.stays (λ next. let both = sym next ∙ c.in-Starved.is in absurd (cc)) in
+    let kept = kept_before keep c.loop.replica.superstep v _ w c.loop.invariant.0 c.in_ok-run_superstep.ensures.kept in (
+      subst (λ (s : ℕ). HasStarved v s q p w) (sym c.superstep-superstep-in-Starved.ensures.value) (starved_before v _ w _ q p c.loop.invariant.0 end),
+      subst (λ (s : ℕ). KeptIfTold keep v s w) (sym (c.superstep-superstep-in-Starved.ensures.value ∙ same)) kept,
+    )
 
 pub returns-then-falls_due-clause-came : goal.returns-then-falls_due-clause-came
 returns-then-falls_due-clause-came g c = c.loop.invariant.3
 
 pub returns-in_err-begin_anew-clause-gone : goal.returns-in_err-begin_anew-clause-gone
-returns-in_err-begin_anew-clause-gone g c = on_err c.from_residual.result (gone_then _ _ _ _ _ _ c.loop.invariant.0 c.loop.invariant.3 c.in_err-begin_anew.ensures.gone)
+returns-in_err-begin_anew-clause-gone g c = on_err c.from_residual.result (left_then _ _ _ _ _ _ _ c.loop.invariant.0 c.loop.invariant.3 (left_by _ _ _ _ _ c.in_err-begin_anew.ensures.gone))
 
 pub returns-in_err-run_superstep-clause-gone : goal.returns-in_err-run_superstep-clause-gone
-returns-in_err-run_superstep-clause-gone g c = on_err c.from_residual-in_err-run_superstep.result (gone_then _ _ _ _ _ _ c.loop.invariant.0 c.loop.invariant.3 c.in_err-run_superstep.ensures.gone)
+returns-in_err-run_superstep-clause-gone g c = on_err c.from_residual-in_err-run_superstep.result (left_then _ _ _ _ _ _ _ c.loop.invariant.0 c.loop.invariant.3 c.in_err-run_superstep.ensures.gone)
 
 pub returns-in-Over-clause-came : goal.returns-in-Over-clause-came
-returns-in-Over-clause-came g c = come_then _ _ _ _ _ _ _ c.loop.invariant.0 c.loop.invariant.3 c.in_ok-run_superstep.ensures.came
+returns-in-Over-clause-came g c = path_then _ _ _ _ _ _ _ _ c.loop.invariant.0 c.loop.invariant.3 c.in_ok-run_superstep.ensures.came
 
 pub returns-in-Starved-clause-came : goal.returns-in-Starved-clause-came
-returns-in-Starved-clause-came g c = come_then _ _ _ _ _ _ _ c.loop.invariant.0 c.loop.invariant.3 c.in_ok-run_superstep.ensures.came
+returns-in-Starved-clause-came g c = path_then _ _ _ _ _ _ _ _ c.loop.invariant.0 c.loop.invariant.3 c.in_ok-run_superstep.ensures.came
 
 pub loop-init : goal.loop-init
-loop-init g c = (extends_self _ c.requires.caller, c.requires.stands, λ h. h, come_nowhere _ _ _ _ refl)
+loop-init g c = (extends_self _ c.requires.caller, c.requires.stands, λ h. h, come_nowhere _ _ _ _ refl c.args.orders.now.keep)
 
 pub loop-preserved-then-falls_due-2 : goal.loop-preserved-then-falls_due-2
 loop-preserved-then-falls_due-2 g c =
@@ -59,7 +72,7 @@ loop-preserved-then-falls_due-2 g c =
       extends_trans v u _ i.0 c.begin_anew.ensures.seen,
       stands_back v u c.args.node.part c.begin_anew.new.replica i.0 c.in_ok-begin_anew.ensures.stands,
       λ _. refl,
-      come_then v u _ _ _ _ _ i.0 i.3 c.in_ok-begin_anew.ensures.came,
+      path_then _ v u _ _ _ _ _ i.0 i.3 (c.in_ok-begin_anew.ensures.came c.args.orders.now.keep),
     )
 
 pub loop-preserved : goal.loop-preserved
@@ -70,7 +83,7 @@ loop-preserved g c =
       extends_trans v u _ i.0 c.run_superstep.ensures.seen,
       stands_back v u c.args.node.part c.run_superstep.new.replica i.0 c.in_ok-run_superstep.ensures.stands,
       i.2,
-      come_then v u _ _ _ _ _ i.0 i.3 c.in_ok-run_superstep.ensures.came,
+      path_then _ v u _ _ _ _ _ i.0 i.3 c.in_ok-run_superstep.ensures.came,
     )
 
 pub begin_anew-requires-clause-caller : goal.begin_anew-requires-clause-caller

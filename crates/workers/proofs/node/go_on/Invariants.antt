@@ -1,7 +1,7 @@
 use Rattle.std.proofs.Common.{◌≡◌, None}
 use Rattle.ball_model.specs.Caller.{Extends}
 use Rattle.ball_model.specs.History.{holding_in}
-use Rattle.workers.specs.Tie.{HasCome}
+use Rattle.workers.specs.Tie.{IsPath}
 use Rattle.workers.specs.Superstep.{StandsIn}
 use Rattle.workers.proofs.node.go_on.Given as goal
 
@@ -9,4 +9,4 @@ abbrev pub invariant-loop : goal.invariant-loop
 invariant-loop g l =
     Extends (g.E.Exchange.caller l.fn.exchange) (g.E.Exchange.caller l.exchange)
     × StandsIn (g.E.Exchange.caller l.fn.exchange) l.node.part l.replica × (l.orders.restart ≡ None → l.restart ≡ None)
-    × HasCome (g.E.Exchange.caller l.fn.exchange) l.node.part (holding_in l.fn.replica) (holding_in l.replica) (g.E.Exchange.caller l.exchange)
+    × IsPath l.orders.keep (g.E.Exchange.caller l.fn.exchange) l.node.part (holding_in l.fn.replica) (holding_in l.replica) (g.E.Exchange.caller l.exchange)

@@ -7,7 +7,7 @@ use Rattle.workers.specs.declared.node.NodeEnd.{NodeEnd}
 use Rattle.workers.specs.declared.node.NodeError.{NodeError}
 use Rattle.std.specs.Prelude.{OnErr, OnOk, Result}
 use Rattle.workers.specs.Superstep.{EndsAs}
-use Rattle.workers.specs.Tie.{HasCome, HasGone}
+use Rattle.workers.specs.Tie.{HasPath, IsPath}
 use Rattle.workers.proofs.NodeLemmas.{end_fits, ended}
 use Rattle.workers.proofs.SuperstepLemmas.{stands_at}
 use Rattle.workers.proofs.node.run_from.Goals as goal
@@ -23,12 +23,12 @@ returns g c =
     let w : Caller = g.E.Exchange.caller c.go_on-fate.new.exchange in
     let p = c.args.node.part in
     let r : State = c.go_on-fate.new.replica in
-    let lose = c.args.orders.now.lose in
+    let orders = c.args.orders.now in
     let held = c.requires.first.held in
-    let came = subst (λ (h : Holding). OnOk c.go_on-fate.result (HasCome v p h (holding_in r) w)) held c.go_on-fate.ensures.came in
-    let gone = subst (λ (h : Holding). OnErr c.go_on-fate.result (HasGone v p h w)) held c.go_on-fate.ensures.gone in
+    let came = subst (λ (h : Holding). OnOk c.go_on-fate.result (IsPath orders.keep v p h (holding_in r) w)) held c.go_on-fate.ensures.came in
+    let gone = subst (λ (h : Holding). OnErr c.go_on-fate.result (HasPath orders.keep v p h w)) held c.go_on-fate.ensures.gone in
     record {
       seen = c.go_on-fate.ensures.seen;
-      ends = subst (λ (e : Result NodeEnd NodeError). EndsAs v p lose e w) (sym c.end_with.ensures) (ended v p lose r c.go_on-fate.result w c.requires.part.below c.go_on-fate.ensures.fate came gone c.go_on-fate.ensures.full);
+      ends = subst (λ (e : Result NodeEnd NodeError). EndsAs v p orders e w) (sym c.end_with.ensures) (ended v p orders r c.go_on-fate.result w c.requires.part.below c.go_on-fate.ensures.fate came gone c.go_on-fate.ensures.full);
       fits = λ one keep anew. end_fits c.go_on-fate.result r c.end_with.result c.end_with.ensures (c.go_on-fate.ensures.alone one keep anew);
     }

@@ -20,10 +20,10 @@ pub returns-in_err-shared-clause-ends : goal.returns-in_err-shared-clause-ends
 returns-in_err-shared-clause-ends g c =
     let v : Caller = g.E.Exchange.caller c.args.exchange.now in
     let p = err_from_is_err_and c.from_residual.result c.from_residual.ensures.1 in
-    subst (λ (r : Result NodeEnd NodeError). EndsAs v c.args.node.part c.args.orders.now.lose r v) (sym p.1) (out_of_memory v c.args.node.part c.args.orders.now.lose _ p.2)
+    subst (λ (r : Result NodeEnd NodeError). EndsAs v c.args.node.part c.args.orders.now r v) (sym p.1) (out_of_memory v c.args.node.part c.args.orders.now _ p.2)
 
 pub returns-in_err-replica-clause-ends : goal.returns-in_err-replica-clause-ends
 returns-in_err-replica-clause-ends g c =
     let v : Caller = g.E.Exchange.caller c.args.exchange.now in
     let p = err_from_is_err_and c.from_residual-in_err-replica.result c.from_residual-in_err-replica.ensures.1 in
-    subst (λ (r : Result NodeEnd NodeError). EndsAs v c.args.node.part c.args.orders.now.lose r v) (sym p.1) (out_of_memory v c.args.node.part c.args.orders.now.lose _ p.2)
+    subst (λ (r : Result NodeEnd NodeError). EndsAs v c.args.node.part c.args.orders.now r v) (sym p.1) (out_of_memory v c.args.node.part c.args.orders.now _ p.2)

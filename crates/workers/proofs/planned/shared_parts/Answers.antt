@@ -13,7 +13,7 @@ pub loop-part-preserved : goal.loop-part-preserved
 loop-part-preserved c = λ j parts.
     let i = subst (λ rest. Signing j c.args.job rest c.loop-part.shared.items) c.in-Some.ensures.steps.0 (c.loop-part.invariant j parts) in
     subst (Signing j c.args.job (into_iter_items c.next.new.self)) (sym c.in_ok-push.ensures.items)
-    (signing_more j c.args.job c.in-Some.part (into_iter_items c.next.new.self) c.loop-part.shared.items c.shared_part.result i (c.shared_part.ensures j))
+    (signing_more j c.args.job c.in-Some.part (into_iter_items c.next.new.self) c.loop-part.shared.items c.in_ok-ready.ready i (c.in_ok-ready.ensures j))
 
 pub returns : goal.returns
 returns c = λ j parts.

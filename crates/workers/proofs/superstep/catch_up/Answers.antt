@@ -19,7 +19,7 @@ returns-in_default-clause-came g c = come_nowhere _ _ _ _ (MatchOption-at_none _
 pub returns-in_default-merge-clause-gone : goal.returns-in_default-merge-clause-gone
 returns-in_default-merge-clause-gone g c =
     let called = MatchOption-at_some _ _ c.in-Some.snapshot c.in-Some.is c.in_ok-snapshot.ensures.found in
-    gone _ _ _ _ _ (come_by_call _ _ _ _ _ _ called (sym (number_is _ _ _ c.args.replica.now c.requires.stands)) refl tt)
+    gone _ _ _ _ _ (come_by_call _ _ _ _ _ _ called (sym (number_is _ _ _ c.args.replica.now c.requires.stands)) refl tt (λ keep. tt))
 
 pub returns-clause-came : goal.returns-clause-came
 returns-clause-came g c =
@@ -32,4 +32,4 @@ returns-clause-came g c =
     let state : IsState snapshot = subst IsState c.deref.ensures c.superstep-2.ensures.state in
     let absorbs : Absorbs r snapshot c.merge.new.self =
     subst (λ (o : State). Absorbs r o c.merge.new.self) c.deref-2.ensures (record { part = c.merge.ensures.part; shown = c.in-Ok.ensures.shown; names = c.in-Ok.ensures.names; stands = c.in-Ok.ensures.stands }) in
-    come_by_call v _ p _ (holding_in r) _ called (sym (number_is v.seen.job p _ r c.requires.stands)) (sym (held_merged v.seen.job p _ _ r snapshot c.merge.new.self c.requires.stands theirs c.superstep.ensures.state state absorbs)) tt
+    come_by_call v _ p _ (holding_in r) _ called (sym (number_is v.seen.job p _ r c.requires.stands)) (sym (held_merged v.seen.job p _ _ r snapshot c.merge.new.self c.requires.stands theirs c.superstep.ensures.state state absorbs)) tt (λ keep. tt)

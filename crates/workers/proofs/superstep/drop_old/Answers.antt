@@ -15,4 +15,4 @@ pub returns-in_err-drop_below-clause-came : goal.returns-in_err-drop_below-claus
 returns-in_err-drop_below-clause-came g c = λ p h at. come_nowhere _ _ p h c.in_err-drop_below.ensures.refused
 
 pub returns-clause-came : goal.returns-clause-came
-returns-clause-came g c = λ p h at. come_by_call _ _ p _ h h c.in_ok-drop_below.ensures.ok tt refl (omega (arith, at))
+returns-clause-came g c = λ p h at. come_by_call _ _ p _ h h c.in_ok-drop_below.ensures.ok tt refl (omega (arith, at)) (λ keep. tt)

@@ -24,4 +24,4 @@ returns-clause-came g c =
     let p = c.args.node.part in
     let called = MatchOption-at_some _ _ c.in-Some.batch c.in-Some.is c.in_ok-batch.ensures.found in
     let true_of = MatchOption-at_some _ _ c.in-Some.batch c.in-Some.is c.in_ok-batch.ensures.batch in
-    come_by_call v _ p _ (holding_in c.args.replica.now) _ called tt (own_take v.seen.job p _ (arc_value c.in-Some.batch) c.take.result c.args.replica.now c.take.new.self c.requires.stands c.superstep.ensures.state true_of (c.take.ensures.step v.seen.job p)) tt
+    come_by_call v _ p _ (holding_in c.args.replica.now) _ called tt (own_take v.seen.job p _ (arc_value c.in-Some.batch) c.take.result c.args.replica.now c.take.new.self c.requires.stands c.superstep.ensures.state true_of (c.take.ensures.step v.seen.job p)) tt (λ keep. tt)

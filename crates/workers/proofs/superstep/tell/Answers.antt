@@ -31,4 +31,4 @@ pub returns-clause-came : goal.returns-clause-came
 returns-clause-came g c =
     let v = g.E.Exchange.caller c.args.exchange.now in
     let told = c.in_ok-batch.ensures v.seen.job c.args.node.part _ c.requires.stands in
-    come_by_call v _ _ _ _ _ c.in_ok-post.ensures.ok (own_post v.seen.job c.args.node.part c.args.target _ _ c.args.replica.now c.requires.stands c.requires.target c.requires.other refl told) refl tt
+    come_by_call v _ _ _ _ _ c.in_ok-post.ensures.ok (own_post v.seen.job c.args.node.part c.args.target _ _ c.args.replica.now c.requires.stands c.requires.target c.requires.other refl told) refl tt (λ keep. tt)
