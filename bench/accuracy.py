@@ -1,7 +1,7 @@
 #!/usr/bin/env python3
 """Measures how near the figures are: exact ones against those of ./hyperball run, raw and corrected.
 
-Usage: bench/accuracy.py        prints the tables of docs/ACCURACY.md (some minutes)
+Usage: bench/accuracy.py        prints tables that docs/ACCURACY.md has rows of (some minutes)
        bench/accuracy.py time   prints igraph's time for exact harmonic centrality beside ours, on 30,000 pages
 
 Four graphs, log2m 4 to 10, 20 seeds each, both estimates. The relative error of a figure is |estimate - exact| / exact, on
