@@ -39,7 +39,7 @@ def run(words, path, report):
 
 
 def run_other(other, log2m, path, report):
-    return watched([other, "--log2m", log2m, "--large", "--threads", "4"], path, report, environment())
+    return watched([other, "--log2m", log2m, "--large", "--threads", "4"], path, report, environment(one_heap=True, large=True))
 
 
 def lone_vertices(count, file):

@@ -25,7 +25,10 @@ def environment(one_heap=False, large=False):
     values = dict(re.findall(r"^(\w+)=(\S+)$", text, re.MULTILINE))
     for name, more in re.findall(r"^ +(\w+)=\$\1(\S+)$", text, re.MULTILINE) if one_heap else []:
         values[name] += more
-    for name, value in re.findall(r"--large .* \|\| (\w+)=(\S+)$", text, re.MULTILINE) if large else []:
+    smaller = re.findall(r"--large .* \|\| (\w+)=(\S+)$", text, re.MULTILINE)
+    if large and not smaller:
+        raise SystemExit("bench: what ./hyperball sets for --large could not be read")
+    for name, value in smaller if large else []:
         values[name] = value
     usual = {}
     for name, value in re.findall(r'^export (\w+)="\$\{\1:-([^}]*)\}"$', text, re.MULTILINE):
