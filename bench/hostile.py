@@ -297,7 +297,7 @@ def how_many(words, data, shim, variable):
 def growth_refused(shim):
     """The table of guesses, which grows after 131,072 labels, is left as it is where memory for a larger one is refused: one
     of these allocations is done without, and the report is the same; each of the others ends the run."""
-    data, words = "".join(f"{v}\n" for v in range(140000)).encode(), ["run", "--log2m", "4"]
+    data, words = "".join(f"{v}\n" for v in range(140000)).encode(), ["run", "--log2m", "4", "--threads", "1"]
     report, bad, spared, calls = ran(words, data)[1], [], 0, range(131200, 131350)
     for call in calls:
         answer, reached = without(words, data, shim, "REFUSE_ALLOC", call)
@@ -307,6 +307,15 @@ def growth_refused(shim):
     if not spared:
         bad.append((words, "none of these allocations was done without"))
     count("memory refused: a larger table of guesses", len(calls), bad)
+
+
+def reading_refused(shim):
+    """An edge list of several pieces, which threads cut: whichever allocation or thread is refused, the report is the same,
+    or the run says that memory was refused and has written nothing."""
+    words, data = [*RUN, "--threads", "4"], EDGES * 200000
+    for kind, variable in ("memory", "REFUSE_ALLOC"), ("a thread", "REFUSE_THREAD"):
+        each_call(f"{kind} refused: reading by threads", words, data, shim, variable,
+                  lambda *answer: answer in [(1, b"", b"hyperball: out of memory\n"), (0, REPORT, b"")])
 
 
 def refused_in_threads(shim):
@@ -525,6 +534,7 @@ def main():
                 refused_calls(shim)
             refusals(shim)
             if words != ["program"]:
+                reading_refused(shim)
                 growth_refused(shim)
                 refused_in_threads(shim)
         else:

@@ -55,7 +55,7 @@ class Wheel(unittest.TestCase):
     def test_one_version(self):
         text = (PAGES / "python" / "pyproject.toml").read_text()
         self.assertEqual(re.search('^version = "(.*)"$', text, re.M).group(1), hyperball.__version__)
-        program = (PAGES / "crates" / "hyperball" / "src" / "words.rt").read_text()
+        program = (PAGES / "crates" / "hyperball" / "src" / "cli.rt").read_text()
         self.assertEqual(re.search('VERSION: &str = "(.*)";', program).group(1), hyperball.__version__)
 
 

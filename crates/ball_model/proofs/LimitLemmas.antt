@@ -1,6 +1,6 @@
 -- What is read under some limits is read the same under higher ones.
-use Rattle.std.proofs.Common.{◌≡◌, ◌<◌, ◌≤◌, ◌+◌, ℕ, Bool, true, false, nat_lt, nat_le, not, if◌then◌else◌, List, [], ◌∷◌, map, length, take, arith, refl, subst, sym}
-use Rattle.std.specs.Prelude.{Option, None, Some, Result, Ok, Err, slice_index_or}
+use Rattle.std.proofs.Common.{◌≡◌, ◌≤◌, ◌+◌, ℕ, Bool, true, false, nat_lt, nat_le, not, if◌then◌else◌, List, [], ◌∷◌, map, length, take, arith, refl}
+use Rattle.std.specs.Prelude.{Option, None, Some, Ok, slice_index_or}
 use Rattle.std.specs.List.{range_with_len}
 use Rattle.std.proofs.lemmas.Bool.{leb-false, lt-leb, ltb-false, le-ltb}
 use Rattle.ball_model.specs.Input.{Limits, Network, Refusal, TooManyEdges, Fields, TooManyVertices, fault_at, first_of, has_form, labels_of, network_from, network_of, network_unless}

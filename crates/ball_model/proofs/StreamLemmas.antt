@@ -1,6 +1,6 @@
 -- What several calls of a stream did, call by call.
 use Rattle.std.proofs.Common.{◌≡◌, ℕ, ◌+◌, ◌-◌, ◌<◌, ◌≤◌, ◌⊎◌, List, [], ◌++◌, length, take, drop, refl, sym, ap, ◌∙◌, arith, append_assoc, append-nil, length-append, length-take-le, take-append-drop, inl, inr, subst, None, Some}
-use Rattle.std.specs.Prelude.{IfNone, ⊤}
+use Rattle.std.specs.Prelude.{⊤}
 use Rattle.std.specs.declared.option.Option.{Option}
 use Rattle.std.specs.Io.KnownBytes.{Appends, Consumes, Keeps}
 use Rattle.std.proofs.lemmas.List.{take_rest}
@@ -87,11 +87,6 @@ put_goes all rest room sure now left s p e le some fits = elim [
 
 pub room_less : (all rest n room left now : ℕ) → left ≡ room - (all - rest) → now ≡ left - n → rest ≤ all → n ≤ rest → now ≡ room - (all - (rest - n))
 room_less all rest n room left now is less le fits = omega arith
-
--- one failure more is a failure more
-pub rises_by_one : (told : Option ℕ) (old new : ℕ) → IfNone told (new ≡ old + 1) → IfNone told (old < new)
-rises_by_one None old new e = omega arith
-rises_by_one (Some n) old new e = tt
 
 -- ---- bytes that were read
 

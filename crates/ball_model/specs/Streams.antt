@@ -7,6 +7,10 @@ use Rattle.std.specs.Io.KnownBytes.{Appends, Consumes, Keeps, IsAtEnd}
 abbrev pub Rises : ℕ → ℕ → Type 0
 Rises old new = old < new
 
+-- the count rose by one
+abbrev pub RisesByOne : ℕ → ℕ → Type 0
+RisesByOne old new = new ≡ old + 1
+
 -- a read that told n bytes gave them, 0 only at the end or with no room; one that failed gave none
 abbrev pub Gets : Option (List ℕ) → Option (List ℕ) → Option ℕ → List ℕ → Type 0
 Gets old new told buf =

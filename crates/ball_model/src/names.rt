@@ -20,6 +20,8 @@ pub struct BatchName {
 
 impl BatchName {
     /// Whether the name stands before the other: by superstep, then by source, then by target.
+    ///
+    /// For a library's user: the program does not call it.
     pub fn is_before(&self, other: &BatchName) -> bool
         ensures { result ≡ stands_before self.now other.now }
     {
@@ -38,6 +40,8 @@ pub struct NodeId {
 
 impl NodeId {
     /// Whether the node stands before the other: by partition, then by replica.
+    ///
+    /// For a library's user: the program does not call it.
     pub fn is_before(&self, other: &NodeId) -> bool
         ensures { result ≡ node_stands_before self.now other.now }
     {

@@ -9,7 +9,7 @@ ghost use Rattle.std.specs.Borrow.{ftrue};
 ghost use Rattle.std.specs.Io.KnownBytes.{ReadConsumes, WriteAppends, Keeps, Appends, Consumes};
 ghost use Rattle.std.specs.Io.{ReadsAtMost, WritesAtMost};
 ghost use Rattle.ball_model.specs.Streams.{Gets, Puts, PutsFront, EndsAfter, AfterAtMost, AreSure};
-ghost use Rattle.ball_model.specs.Streams.{after_call, TakesAtMost};
+ghost use Rattle.ball_model.specs.Streams.{after_call, RisesByOne, TakesAtMost};
 
 use std::io;
 use std::io::{Read, Write};
@@ -33,7 +33,7 @@ pub trait CountedRead: Read {
         ensures within { IfSome result (λ n. n ≤ length buf.new) }
         ensures bytes { Gets (Self.remaining self.old) (Self.remaining self.new) result buf.new }
         ensures counted { IfSome result (λ _. failed_calls self.new ≡ failed_calls self.old) }
-        ensures failed { IfNone result (failed_calls self.old < failed_calls self.new) }
+        ensures failed { IfNone result (failed_calls self.new ≡ failed_calls self.old + 1) }
         ensures only { IfNone result (sure_calls self.old ≡ Some 0) }
         ensures sure { sure_calls self.new ≡ after_call (sure_calls self.old) };
 }
@@ -61,7 +61,7 @@ pub trait CountedWrite: Write {
         ensures within { IfSome result (λ n. n ≤ length bytes.now) }
         ensures bytes { Puts (Self.contents self.old) (Self.contents self.new) result bytes.now }
         ensures counted { IfSome result (λ _. failed_calls self.new ≡ failed_calls self.old) }
-        ensures failed { IfNone result (failed_calls self.old < failed_calls self.new) }
+        ensures failed { IfNone result (failed_calls self.new ≡ failed_calls self.old + 1) }
         ensures only { IfNone result ((sure_calls self.old ≡ Some 0) ⊎ (room self.old ≡ 0)) }
         ensures sure { sure_calls self.new ≡ after_call (sure_calls self.old) }
         ensures taken { IfSome result (λ n. room self.new ≡ room self.old - n) }
@@ -71,7 +71,7 @@ pub trait CountedWrite: Write {
     fn try_flush(&mut self) -> bool
         ensures bytes { Keeps (Self.contents self.old) (Self.contents self.new) }
         ensures counted { result ≡ true → failed_calls self.new ≡ failed_calls self.old }
-        ensures failed { result ≡ false → failed_calls self.old < failed_calls self.new }
+        ensures failed { result ≡ false → failed_calls self.new ≡ failed_calls self.old + 1 }
         ensures only { result ≡ false → sure_calls self.old ≡ Some 0 }
         ensures sure { sure_calls self.new ≡ sure_calls self.old }
         ensures room { room self.new ≡ room self.old };
@@ -300,7 +300,8 @@ pub fn put_all<W: CountedWrite>(writer: &mut W, bytes: &[u8]) -> bool
     ensures front { result ≡ false →
         PutsFront (W.contents writer.old) (W.contents writer.new) bytes.now }
     ensures counted { result ≡ true → W.failed_calls writer.new ≡ W.failed_calls writer.old }
-    ensures failed { result ≡ false → W.failed_calls writer.old < W.failed_calls writer.new }
+    ensures failed { result ≡ false →
+        RisesByOne (W.failed_calls writer.old) (W.failed_calls writer.new) }
     ensures only { AreSure (W.sure_calls writer.old) (length bytes.now) →
         length bytes.now ≤ W.room writer.old → result ≡ true }
     ensures sure { AfterAtMost (length bytes.now)
@@ -341,7 +342,7 @@ pub fn fill<R: CountedRead>(reader: &mut R, buf: &mut [u8]) -> Filled
     ensures counted { result ≢ Filled.Failed →
         R.failed_calls reader.new ≡ R.failed_calls reader.old }
     ensures failed { result ≡ Filled.Failed →
-        R.failed_calls reader.old < R.failed_calls reader.new }
+        RisesByOne (R.failed_calls reader.old) (R.failed_calls reader.new) }
     ensures only { AreSure (R.sure_calls reader.old) (length buf.old) → result ≢ Filled.Failed }
     ensures sure { AfterAtMost (length buf.old)
         (R.sure_calls reader.old) (R.sure_calls reader.new) }

@@ -128,7 +128,7 @@ fn tells(plan: &Plan) -> bool {
         && plan.with_job([8; 32]).job() == [8; 32]
 }
 
-// The same of one plan.
+// Whether one plan does.
 fn a_plan_tells() -> bool {
     match Plan::new(5, 42, 3, 77, 8, [9; 32]) {
         Ok(plan) => tells(&plan),
@@ -506,7 +506,7 @@ fn puts_five(writer: &mut MemWriter) -> (bool, bool, u64) {
     (all, writer.try_flush(), writer.failures())
 }
 
-// The same of a writer with so much room, with a failure at this call; and whether it holds these bytes.
+// Puts five bytes in a writer with so much room that fails at this call, and tells whether it holds these bytes then.
 fn put_in_room(
     alloc: Global,
     room: usize,

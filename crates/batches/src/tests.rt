@@ -139,7 +139,7 @@ fn tells_one(batch: &Batch) -> bool {
         && matches!(batch.find(0), Some(row) if row == ROW.as_slice())
 }
 
-/// The same of the bytes, under a plan of another job.
+/// Whether the bytes do, under a plan of another job.
 fn bytes_are_told(alloc: Global) -> Result<bool, BatchError> {
     match plan([9; 32]) {
         Ok(plan) => Ok(tells_one(&Batch::decode(alloc, &plan, &BYTES)?)),
@@ -269,7 +269,7 @@ fn row_counts(alloc: Global, plan: &Plan) -> [Result<u32, BatchError>; 5] {
     ]
 }
 
-/// The same under the plan.
+/// How many rows are read of these under the plan.
 fn rows_of_plan(alloc: Global) -> Option<[Result<u32, BatchError>; 5]> {
     match plan(JOB) {
         Ok(plan) => Some(row_counts(alloc, &plan)),

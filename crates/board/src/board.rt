@@ -111,7 +111,7 @@ impl Board {
 
     /// The first seat has then seen what both have, and the second ends: its number is never used again.
     ///
-    /// It takes no memory, and waits for nobody.
+    /// It takes no memory, and waits for nobody. For a library's user: the program does not call it.
     pub fn join(&self, seat: &mut Seat, ended: Seat)
         requires board { IsAt self.now seat.old }
         requires ended { IsAt self.now ended }

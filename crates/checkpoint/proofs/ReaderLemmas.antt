@@ -19,7 +19,7 @@ use Rattle.edgelist.proofs.LabelLemmas.{text_same}
 use Rattle.ball_model.specs.declared.streams.Filled.{Filled}
 use Rattle.ball_model.specs.declared.streams.Filled.TheVariants as filled
 use Rattle.ball_model.specs.Job.{PartValue}
-use Rattle.ball_model.specs.Streams.{AfterAtMost, AreSure, EndsAfter, TakesAtMost, Rises}
+use Rattle.ball_model.specs.Streams.{AfterAtMost, AreSure, EndsAfter, TakesAtMost, RisesByOne}
 use Rattle.ball_model.proofs.StreamLemmas.{after_none}
 use Rattle.checkpoint.specs.declared.header.CheckpointHeader.{CheckpointHeader}
 use Rattle.checkpoint.specs.declared.sizes.TheConstants.{DIGEST_LEN, HEADER_LEN}
@@ -157,7 +157,7 @@ pub fails_then : {R : Type 0} {remaining : R → Option (List ℕ)} {failed : R 
     → Fails remaining failed sure form most b c e → Fails remaining failed sure whole more a c e
 fails_then {remaining} {failed} {sure} {a} {b} {c} {piece} {form} {most} {e} whole n more p short le same q = record {
   few = record { bytes = piece ++ q.few.bytes; consumed = Consumes-trans (remaining a) (remaining b) (remaining c) piece q.few.bytes p.consumed q.few.consumed; few = omega (arith, length-append piece q.few.bytes, q.few.few, short, le) };
-  rises = λ is. subst (λ k. Rises k (failed c)) p.counted (q.rises is);
+  rises = λ is. subst (λ k. RisesByOne k (failed c)) p.counted (q.rises is);
   counted = λ is. q.counted is ∙ p.counted;
   unsure = λ is. q.unsure (sure_rest (length piece) most (sure a) (sure b) (sure_fewer (length piece + most) more (sure a) is (omega (arith, short, le))) p.calls);
   wanting = q.wanting;
@@ -410,7 +410,7 @@ seal_trails {remaining} {failed} {sure} {a} {b} {c} {digest} {more} text p len s
     (fails_here remaining failed sure c (λ _. Err errors.Trailing) 0 errors.Trailing (λ is. is) (not_wanting errors.Trailing (λ is. is)) (λ bytes _. refl))
 
 pub seal_unread : {R : Type 0} {remaining : R → Option (List ℕ)} {failed : R → ℕ} {sure : R → Option ℕ} {a b c : R} {digest : List ℕ} (text : List ℕ)
-    → TakesBytes remaining failed sure a b digest → length digest ≡ 32 → TakesAtMost 1 (remaining b) (remaining c) → failed b < failed c → (AreSure (sure b) 1 → ⊥)
+    → TakesBytes remaining failed sure a b digest → length digest ≡ 32 → TakesAtMost 1 (remaining b) (remaining c) → RisesByOne (failed b) (failed c) → (AreSure (sure b) 1 → ⊥)
     → Fails remaining failed sure (seal_form text) 33 a c errors.Read
 seal_unread {remaining} {failed} {sure} {a} {b} {c} {digest} text p len few rises unsure =
     fails_then {form = λ _. Ok 0} (seal_form text) 32 33 p (omega (arith, len)) (omega arith) (λ rest is. absurd (cc))
@@ -584,7 +584,7 @@ whatever_it_is (Err e) h = λ _. h
 
 -- a call fails
 pub unread_fails : {R : Type 0} {remaining : R → Option (List ℕ)} {failed : R → ℕ} {sure : R → Option ℕ} {a b : R} (form : Form) (most : ℕ)
-    → TakesAtMost most (remaining a) (remaining b) → failed a < failed b → (AreSure (sure a) most → ⊥) → Fails remaining failed sure form most a b errors.Read
+    → TakesAtMost most (remaining a) (remaining b) → RisesByOne (failed a) (failed b) → (AreSure (sure a) most → ⊥) → Fails remaining failed sure form most a b errors.Read
 unread_fails form most few rises unsure = record {
   few = few;
   rises = λ _. rises;

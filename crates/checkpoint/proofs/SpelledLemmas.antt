@@ -54,7 +54,7 @@ pub sealed_is : (v : State) (bytes text : List ℕ) → bytes ≡ sealed text �
 unfolding checkpoint_bytes
 sealed_is v bytes text split is = split ∙ ap sealed is
 
--- the same of version 1
+-- the content of a text of version 1
 pub first_content_is : (part : PartValue) (s : Saved) (v : State) (text : List ℕ) → IsRebuilt part s v → IsState v → take 54 text ≡ front_bytes 1 v
     → drop 54 text ≡ table_text s.marks.items (map value_of s.tallies.items) s.rows.rows s.sums.items → text ≡ front_bytes 1 v ++ table_bytes v
 first_content_is part s v text r is front rest =

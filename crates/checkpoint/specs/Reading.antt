@@ -9,7 +9,7 @@ use Rattle.ball_model.specs.Checkpoint.{checkpoint_bytes, first_checkpoint_bytes
 use Rattle.ball_model.specs.Job.{PartValue}
 use Rattle.ball_model.specs.PlanValue.{PlanValue, part_size}
 use Rattle.ball_model.specs.State.{State}
-use Rattle.ball_model.specs.Streams.{AfterAtMost, AreSure, Rises, TakesAtMost}
+use Rattle.ball_model.specs.Streams.{AfterAtMost, AreSure, RisesByOne, TakesAtMost}
 use Rattle.batches.specs.Kept.{field}
 use Rattle.batches.specs.declared.header.TheConstants.{HEADER_LEN as batch_head}
 use Rattle.replica.specs.Saved.{IsKeepable}
@@ -223,7 +223,7 @@ pub record GrowsByContent {R : Type 0} (remaining : R → Option (List ℕ)) (fa
 pub record Fails {R : Type 0} (remaining : R → Option (List ℕ)) (failed : R → ℕ)
     (sure : R → Option ℕ) (form : Form) (most : ℕ) (old new : R) (e : KeepError) : Type 0 where
   pub few : TakesAtMost most (remaining old) (remaining new)
-  pub rises : IsRead e → Rises (failed old) (failed new)
+  pub rises : IsRead e → RisesByOne (failed old) (failed new)
   pub counted : (IsRead e → ⊥) → failed new ≡ failed old
   pub unsure : AreSure (sure old) most → IsRead e → ⊥
   pub wanting : e ≢ errors.Memory
@@ -253,7 +253,7 @@ pub record TellNone (part : PartValue) (bytes : List ℕ) : Type 0 where
 pub record RefusesAs {R : Type 0} (remaining : R → Option (List ℕ)) (failed : R → ℕ)
     (sure : R → Option ℕ) (part : PartValue) (most : ℕ) (old new : R) (e : KeepError) : Type 0 where
   pub few : TakesAtMost most (remaining old) (remaining new)
-  pub rises : IsRead e → Rises (failed old) (failed new)
+  pub rises : IsRead e → RisesByOne (failed old) (failed new)
   pub counted : (IsRead e → ⊥) → failed new ≡ failed old
   pub unsure : AreSure (sure old) most → IsRead e → ⊥
   pub due : (bytes : List ℕ) → remaining old ≡ Some bytes → IsOfBytes e →

@@ -1,7 +1,7 @@
 -- What is written, and digested as it is written.
 use Rattle.std.specs.Prelude.{◌≡◌, ◌-◌, ◌≤◌, ℕ, List, Option, length}
 use Rattle.std.specs.Io.KnownBytes.{Appends}
-use Rattle.ball_model.specs.Streams.{AfterAtMost, AreSure, PutsFront, Rises}
+use Rattle.ball_model.specs.Streams.{AfterAtMost, AreSure, PutsFront, RisesByOne}
 
 -- a writer that tells its bytes, its failed calls, and which calls are sure, took the bytes
 pub record Writes {W : Type 0} (contents : W → Option (List ℕ)) (failed : W → ℕ)
@@ -15,5 +15,5 @@ pub record Writes {W : Type 0} (contents : W → Option (List ℕ)) (failed : W 
 pub record StopsWriting {W : Type 0} (contents : W → Option (List ℕ)) (failed : W → ℕ)
     (sure : W → Option ℕ) (room : W → ℕ) (old new : W) (bytes : List ℕ) : Type 0 where
   pub front : PutsFront (contents old) (contents new) bytes
-  pub rises : Rises (failed old) (failed new)
+  pub rises : RisesByOne (failed old) (failed new)
   pub unsure : AreSure (sure old) (length bytes) → length bytes ≤ room old → ⊥

@@ -19,8 +19,7 @@ use replica::{Replica, Shown};
 pub fn checkpoint_length(replica: &Replica) -> u64
     ensures { result ≡ length (checkpoint_bytes replica.now) }
 {
-    // the limits of a replica are told with its superstep
-    let _superstep = replica.superstep();
+    replica.limits();
     let size = replica.rows().len() as u64;
     let width = replica.rows().width() as u64;
     let sums = replica.sums().len() as u64;
@@ -39,8 +38,7 @@ fn early_length(replica: &Replica) -> u64
     ensures value { result ≡ length (flat_map early_bytes (kept_batches replica.now.early)) }
     ensures few { result ≤ LEVELS * most_parts * longest_batch }
 {
-    // the limits of a replica are told with its superstep
-    let _superstep = replica.superstep();
+    replica.limits();
     let mut length = 0;
     for i in 0..replica.early_count() {
         length += nth_length(replica, i);

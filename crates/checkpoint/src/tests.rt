@@ -39,7 +39,7 @@ fn part_in(rt: &HostRuntime, graph: &Graph, parts: u16, partition: u16) -> Optio
     Arc::new(rt.alloc(), part).ok()
 }
 
-/// The same of the graph of an edge list.
+/// One of so many parts of the graph of an edge list.
 fn part_of(rt: &HostRuntime, text: &[u8], parts: u16, partition: u16) -> Option<Arc<Part>> {
     let graph = graph(rt, text)?;
     part_in(rt, &graph, parts, partition)

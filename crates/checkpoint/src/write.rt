@@ -8,7 +8,7 @@ ghost use Rattle.std.specs.Io.KnownBytes.{Appends};
 ghost use Rattle.ball_model.specs.Batches.{row_bytes};
 ghost use Rattle.ball_model.specs.Checkpoint.{front_bytes, vertex_bytes, table_bytes, held_bytes};
 ghost use Rattle.ball_model.specs.Checkpoint.{early_bytes, kept_batches, checkpoint_bytes};
-ghost use Rattle.ball_model.specs.Streams.{AreSure, PutsFront};
+ghost use Rattle.ball_model.specs.Streams.{AreSure, PutsFront, RisesByOne};
 ghost use Rattle.replica.specs.Seen.{IsState};
 ghost use Rattle.checkpoint.specs.Writing.{Writes, StopsWriting};
 ghost use Rattle.checkpoint.specs.Spooled.{PassesOn, waiting};
@@ -34,7 +34,8 @@ pub fn write_checkpoint<W: CountedWrite>(replica: &Replica, writer: &mut W) -> R
     ensures front { OnErr result (PutsFront (W.contents writer.old) (W.contents writer.new)
         (checkpoint_bytes replica.now)) }
     ensures counted { OnOk result (W.failed_calls writer.new ≡ W.failed_calls writer.old) }
-    ensures failed { OnErr result (W.failed_calls writer.old < W.failed_calls writer.new) }
+    ensures failed { OnErr result (
+        RisesByOne (W.failed_calls writer.old) (W.failed_calls writer.new)) }
     ensures kind { IfErr result (λ e. e ≡ KeepError.Write) }
     ensures only { AreSure (W.sure_calls writer.old) (length (checkpoint_bytes replica.now)) →
         length (checkpoint_bytes replica.now) ≤ W.room writer.old → IsOk result }
@@ -168,8 +169,7 @@ fn size_of(replica: &Replica) -> u32
     ensures size { result ≡ length replica.now.part.preds }
     ensures state { IsState replica.now }
 {
-    // the limits of a replica are told with its superstep
-    let _superstep = replica.superstep();
+    replica.limits();
     replica.rows().len() as u32
 }
 
@@ -229,7 +229,7 @@ fn keep_heard<W: CountedWrite>(
     ensures stops { OnErr result (StopsWriting W.contents W.failed_calls W.sure_calls W.room
         writer.old writer.new (waiting spool.old ++ heard_bytes replica.now)) }
 {
-    let _size = size_of(replica);
+    replica.limits();
     let heard = replica.heard().bits();
     let change = u8::from(replica.heard_change());
     spool.keep_all(writer, &[&heard.to_be_bytes(), &[change]])
@@ -264,7 +264,7 @@ fn keep_count<W: CountedWrite>(
     ensures stops { OnErr result (StopsWriting W.contents W.failed_calls W.sure_calls W.room
         writer.old writer.new (waiting spool.old ++ count_bytes replica.now)) }
 {
-    let _size = size_of(replica);
+    replica.limits();
     let count = replica.early_count() as u16;
     spool.keep(writer, &count.to_be_bytes())
 }

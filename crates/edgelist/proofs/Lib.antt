@@ -22,3 +22,7 @@ pub mod InputLemmas
 pub mod PlanLemmas
 pub mod Crossing
 pub mod RowLemmas
+pub mod CuttingLemmas
+pub mod RoundLemmas
+pub mod MovedLemmas
+pub mod JobLemmas

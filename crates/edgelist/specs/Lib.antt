@@ -13,3 +13,6 @@ pub mod Laws
 pub mod Feeding
 pub mod Pieces
 pub mod Given
+pub mod Cutting
+pub mod Rounds
+pub mod Job

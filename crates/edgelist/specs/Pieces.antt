@@ -1,8 +1,9 @@
 -- Records that are read some lines at a time.
-use Rattle.std.specs.Prelude.{◌≡◌, ◌≢◌, ℕ, ◌+◌, Bool, true, false, List, [], ◌∷◌, ◌++◌, Option, Result, IfOk, IfErr, length, ◌⊎◌}
+use Rattle.std.specs.Prelude.{◌≡◌, ◌≢◌, ℕ, ◌+◌, ◌-◌, Bool, true, false, List, [], ◌∷◌, ◌++◌, Option, Some, Result, IfOk, IfErr, length, slice_range, ◌⊎◌}
+use Rattle.std.specs.Io.KnownBytes.{Consumes, IsAtEnd}
 use Rattle.csv.specs.declared.reader.Reader.{Reader}
 use Rattle.edgelist.specs.Records.{IsLeft, StopsAtEnd}
-use Rattle.ball_model.specs.Input.{Limits, network_from, records}
+use Rattle.ball_model.specs.Input.{IsPlain, Limits, network_from, records}
 use Rattle.edgelist.specs.Reading.{AreWithin, EndsAt, IsClean, IsReadAs, IsRefusal, Refuses}
 use Rattle.edgelist.specs.declared.edge.Edge.{Edge}
 use Rattle.edgelist.specs.declared.read.EdgeError.{EdgeError}
@@ -54,3 +55,25 @@ EndsLine text = (text ≡ []) ⊎ ((front : List ℕ) × (text ≡ front ++ 10 �
 abbrev pub IsLeftOf : List ℕ → List ℕ → List ℕ → Type 0
 IsLeftOf done left lines =
     ((done ≡ []) × (lines ≡ left)) ⊎ ((done ≢ []) × (lines ≡ 10 ∷ left))
+
+-- bytes of a reader were put behind those that are held
+pub record Fills (old new : Option (List ℕ)) (lines lines' : List ℕ) : Type 0 where
+  pub taken : List ℕ
+  pub held : lines' ≡ lines ++ taken
+  pub consumed : Consumes old new taken
+
+-- what stands from a line's beginning up to another's, with the LF before it where there is one
+abbrev pub piece_of : List ℕ → ℕ → ℕ → List ℕ
+piece_of lines at end = slice_range lines (at - 1) end
+
+-- nothing is held, and a reader has nothing left
+abbrev pub IsDone : List ℕ → Option (List ℕ) → Type 0
+IsDone lines left = (lines ≡ []) × IsAtEnd left
+
+-- the records of a text are these, and then those of the lines that are held and of what the reader has left
+pub record IsOn (d : ℕ) (text : List ℕ) (done : List (List (List ℕ))) (lines : List ℕ)
+    (left : Option (List ℕ)) : Type 0 where
+  pub rest : List ℕ
+  pub left_is : left ≡ Some rest
+  pub all : records d text ≡ done ++ records d (lines ++ rest)
+  pub plain : IsPlain (lines ++ rest)

@@ -5,41 +5,46 @@
 //! job over a graph, and [`Graph::part`] the [`Part`] of one partition. Where all parts are made, [`Graph::part_with`]
 //! makes each by [`Graph::feeds`], so that the edges are walked over once for the masks of all. It takes a plan without
 //! its digest too ([`Graph::bare_plan`]): [`Graph::digest`] tells that while parts are made, and [`Part::with_job`] puts
-//! it in.
+//! it in. [`JobOptions`] do all of that as a job asks for it.
 //!
 //! ```text
 //! let mut reader = CountingReader::new(stdin);
-//! let limits = EdgeLimits { vertices: u32::MAX, edges: u64::MAX };
-//! let mut graph = read_edges(alloc, state, &mut reader, Delimiter::Tab, limits)?;
-//! graph.count_only(alloc, Delimiter::Tab, b"alice\nbob\n")?;
-//! let plan = graph.plan(8, 0, 1, 4096)?;
-//! let part = graph.part(alloc, &plan, 0)?;
+//! let read = options.read_network(alloc, state, &mut reader, Some(b"alice\nbob\n"))?;
+//! let plan = options.plan(&read.graph)?;
+//! let part = read.graph.part(alloc, &plan, 0)?;
 //! ```
 //!
-//! Where something follows the edge list, its reader gives the bytes of the edge list to an [`EdgeReader`].
+//! If something follows the edge list, its reader gives the bytes of the edge list to an [`EdgeReader`].
 #![tactic(auto)]
 
 mod build;
 mod counting;
+mod cut;
 mod digest;
 mod edge;
 mod feeds;
 mod graph;
 mod index;
+mod job;
 mod labels;
 pub mod laws;
 mod lists;
 mod masks;
 mod numbering;
 mod part;
+mod piece;
 mod pieces;
 mod read;
 mod records;
+mod rounds;
 mod row;
+mod sort;
+mod watch;
 
 pub use counting::CountedError;
 pub use feeds::Feeds;
 pub use graph::Graph;
+pub use job::{JobOptions, NetworkError};
 pub use lists::Preds;
 pub use part::Part;
 pub use pieces::EdgeReader;
@@ -47,6 +52,7 @@ pub use read::{
     Delimiter, EdgeError, EdgeLimits, EdgeList, LARGE_LIMITS, LIMITS, MOST_RECORDS, USUAL_RECORDS,
     read_edge_list, read_edges, read_large_edge_list,
 };
+pub use watch::{Unwatched, Watch};
 
 #[cfg(test)]
 mod tests;

@@ -11,6 +11,7 @@ ghost use Rattle.edgelist.specs.Labels.{texts};
 ghost use Rattle.edgelist.specs.declared.numbering.TheConstants.{FIRST, SHORT};
 ghost use Rattle.edgelist.specs.Reading.{has_label, with_label};
 
+use crate::cut::CutRecord;
 use crate::labels::Labels;
 use crate::row::Row;
 use indexmap::IndexSet;
@@ -27,6 +28,9 @@ const FIRST: usize = 8;
 // The number of entries at first, of 16 bytes each.
 const FIRST_ENTRIES: usize = 131_072;
 
+// The last byte of the second number of a long label's word; that of a short one is at most 12.
+const LONG: u32 = 255;
+
 // A table of so many entries is in the cache most often, and there is no need to look ahead.
 const IN_CACHE: usize = 524_288;
 
@@ -36,14 +40,15 @@ const MANY_ENTRIES: usize = 33_554_432;
 // The number of entries of a group: they stand side by side, most often in one line of the cache.
 const GROUP: usize = 4;
 
-/// A short label as two numbers that no other short label has: its first 8 bytes, and the others with its length.
+/// A short label as two numbers that no other short label has: its first 8 bytes, and the others with its length. Those of
+/// a long label are mixed of its bytes: no short label has them, and few others do.
 #[derive(Clone, Copy, PartialEq, Eq)]
 pub(crate) struct LabelWord {
     low: u64,
     high: u32,
 }
 
-// A short label's word, and the label's number.
+// A label's word, and the label's number.
 #[derive(Clone, Copy)]
 struct LabelGuess {
     low: u64,
@@ -60,9 +65,9 @@ const BLANK: LabelGuess = LabelGuess {
 
 /// Labels, numbered from 0 by first appearance.
 ///
-/// Beside the set of labels is a table of guesses: a short label has one group of entries there, each of which holds a
-/// short label and its number. Where one of them holds the same label, that is found by one access to memory in place
-/// of the set's three.
+/// Beside the set of labels is a table of guesses: a label has one group of entries there, each of which holds a label's
+/// word and number. A short label that has the word of an entry is found by one access to memory in place of the set's
+/// three. A long one is held against the label with that number, and the set's way of mixing its bytes is saved.
 #[derive(Drop)]
 pub(crate) struct Numbering {
     labels: IndexSet<Vec<u8>, RandomState>,
@@ -129,13 +134,32 @@ fn word(label: &[u8]) -> LabelWord
     LabelWord { low, high }
 }
 
+// A number that another is mixed into: each bit of it depends on many of the other's.
+fn mix(number: u64) -> u64 {
+    let mixed = number.wrapping_mul(0x9e37_79b9_7f4a_7c15);
+    mixed ^ (mixed >> 32)
+}
+
+// The word of a long label.
+fn long_word(label: &[u8]) -> LabelWord {
+    let mut low = label.len() as u64;
+    let mut rest = label;
+    for _i in 0..=label.len() / FIRST {
+        let (first, more) = rest.split_at(rest.len().min(FIRST));
+        low = mix(low ^ digits(first));
+        rest = more;
+    }
+    let high = (mix(low) >> 32) as u32 | LONG;
+    LabelWord { low, high }
+}
+
 impl LabelWord {
-    /// The word of a label that is short, and else that of none.
+    /// The word of a label.
     pub(crate) fn of(label: &[u8]) -> LabelWord
         ensures { IsWord label.now result }
     {
         if label.len() > SHORT {
-            return LabelWord::none();
+            return long_word(label);
         }
         word(label)
     }
@@ -200,9 +224,37 @@ fn guess(entries: &[LabelGuess], word: LabelWord) -> Option<usize>
     None
 }
 
-// Whether the label of a word may be new: it is short, and the first entry of its group is blank. This is a guess. A
-// label that is known may be told as new, where its entry was lost; a new one is not told so where it is long, or where
-// another label's entry is the first of its group.
+// Whether the set has a label with this number.
+fn is_numbered(labels: &IndexSet<Vec<u8>, RandomState>, label: &[u8], number: usize) -> bool
+    ensures { result ≡ true → StandsAt (texts labels.now) label.now number }
+{
+    match labels.get_index(number) {
+        Some(known) => known.as_slice() == label,
+        None => false,
+    }
+}
+
+// The number of a long label, where an entry of its group leads to it.
+fn guess_long(
+    labels: &IndexSet<Vec<u8>, RandomState>,
+    entries: &[LabelGuess],
+    label: &[u8],
+    word: LabelWord,
+) -> Option<usize>
+    ensures { IfSome result (StandsAt (texts labels.now) label.now) }
+{
+    let start = group(word, entries.len());
+    for i in start..entries.len().min(start.saturating_add(GROUP)) {
+        if entries[i].word() == word && is_numbered(labels, label, entries[i].number as usize) {
+            return Some(entries[i].number as usize);
+        }
+    }
+    None
+}
+
+// Whether the label of a word may be new: the first entry of its group is blank. This is a guess. A label that is known
+// may be told as new, where its entry was lost; a new one is not told so where another label's entry is the first of its
+// group.
 fn may_be_new(entries: &[LabelGuess], word: LabelWord) -> bool {
     let place = group(word, entries.len());
     word.high > 0 && place < entries.len() && entries[place].high == 0
@@ -222,6 +274,17 @@ fn count_new(entries: &[LabelGuess], rows: &[Row]) -> usize {
     let mut new = 0usize;
     for row in rows {
         new = new.saturating_add(count_new_in(entries, row));
+    }
+    new
+}
+
+// How many labels of these records may be new, as above.
+fn count_new_cut(entries: &[LabelGuess], records: &[CutRecord]) -> usize {
+    let mut new = 0usize;
+    for record in records {
+        let source = may_be_new(entries, record.source_word());
+        let target = may_be_new(entries, record.target_word());
+        new = new.saturating_add(usize::from(source) + usize::from(target));
     }
     new
 }
@@ -277,6 +340,24 @@ fn remember(entries: &mut [LabelGuess], word: LabelWord, number: usize)
     put(entries, entry);
 }
 
+// The same for the word of a long label, whatever label that is: it leads to no short one.
+fn remember_long(entries: &mut [LabelGuess], word: LabelWord, number: usize)
+    ensures { (labels : List (List ℕ)) → AreGuesses labels entries.old →
+        AreGuesses labels entries.new }
+{
+    let Ok(number) = u32::try_from(number) else {
+        return;
+    };
+    let entry = LabelGuess {
+        low: word.low,
+        high: word.high,
+        number,
+    };
+    if entry.high % 256 == LONG {
+        put(entries, entry);
+    }
+}
+
 // How many entries a table has that takes the place of one with so many.
 fn larger(count: usize) -> usize {
     if count < MANY_ENTRIES {
@@ -315,23 +396,6 @@ fn insert(
     Ok(number)
 }
 
-// The number of a label in the set, which takes the next one where it is new.
-fn look_up(
-    alloc: Global,
-    labels: &mut IndexSet<Vec<u8>, RandomState>,
-    label: &[u8],
-) -> Result<usize, AllocError>
-    ensures found { IfOk result (StandsAt (texts labels.new) label.now) }
-    ensures labels { OnOk result (texts labels.new ≡ with_label (texts labels.old) label.now) }
-    ensures known { has_label (texts labels.old) label.now ≡ true → IsOk result }
-    ensures kept { OnErr result (texts labels.new ≡ texts labels.old) }
-{
-    match find(labels, label) {
-        Some(number) => Ok(number),
-        None => insert(alloc, labels, label),
-    }
-}
-
 impl Numbering {
     /// No labels.
     pub(crate) fn new(alloc: Global, state: RandomState) -> Result<Numbering, AllocError>
@@ -364,7 +428,7 @@ impl Numbering {
         ensures kept { OnErr result (self.new ≡ self.old) }
     {
         if label.len() > SHORT {
-            return look_up(alloc, &mut self.labels, label);
+            return self.number_long(alloc, label, word);
         }
         match guess(&self.entries, word) {
             Some(number) => Ok(number),
@@ -386,17 +450,62 @@ impl Numbering {
         ensures known { has_label self.old label.now ≡ true → IsOk result }
         ensures kept { OnErr result (self.new ≡ self.old) }
     {
-        let number = match find(&self.labels, label) {
-            Some(number) => number,
-            None => self.insert_short(alloc, label)?,
-        };
+        let number = self.look_up(alloc, label)?;
         remember(&mut self.entries, word, number);
         Ok(number)
     }
 
-    // Puts a short label into the set. The table of guesses grows first where it has no room for it, and is left as it
-    // is where memory for a larger one is refused: then some guesses are lost, and the set tells those numbers.
-    fn insert_short(&mut self, alloc: Global, label: &[u8]) -> Result<usize, AllocError>
+    // The number of a long label, by the entry that its word leads to or else by the set.
+    fn number_long(
+        &mut self,
+        alloc: Global,
+        label: &[u8],
+        word: LabelWord,
+    ) -> Result<usize, AllocError>
+        ensures found { IfOk result (StandsAt self.new label.now) }
+        ensures labels { OnOk result (self.new ≡ with_label self.old label.now) }
+        ensures known { has_label self.old label.now ≡ true → IsOk result }
+        ensures kept { OnErr result (self.new ≡ self.old) }
+    {
+        match guess_long(&self.labels, &self.entries, label, word) {
+            Some(number) => Ok(number),
+            None => self.look_up_long(alloc, label, word),
+        }
+    }
+
+    // The number of a long label by the set, which its word then leads to.
+    fn look_up_long(
+        &mut self,
+        alloc: Global,
+        label: &[u8],
+        word: LabelWord,
+    ) -> Result<usize, AllocError>
+        ensures found { IfOk result (StandsAt self.new label.now) }
+        ensures labels { OnOk result (self.new ≡ with_label self.old label.now) }
+        ensures known { has_label self.old label.now ≡ true → IsOk result }
+        ensures kept { OnErr result (self.new ≡ self.old) }
+    {
+        let number = self.look_up(alloc, label)?;
+        remember_long(&mut self.entries, word, number);
+        Ok(number)
+    }
+
+    // The number of a label by the set, which it is put into where it is new.
+    fn look_up(&mut self, alloc: Global, label: &[u8]) -> Result<usize, AllocError>
+        ensures found { IfOk result (StandsAt self.new label.now) }
+        ensures labels { OnOk result (self.new ≡ with_label self.old label.now) }
+        ensures known { has_label self.old label.now ≡ true → IsOk result }
+        ensures kept { OnErr result (self.new ≡ self.old) }
+    {
+        match find(&self.labels, label) {
+            Some(number) => Ok(number),
+            None => self.insert_new(alloc, label),
+        }
+    }
+
+    // Puts a label into the set. The table of guesses grows first where it has no room for it, and is left as it is where
+    // memory for a larger one is refused: then some guesses are lost, and the set tells those numbers.
+    fn insert_new(&mut self, alloc: Global, label: &[u8]) -> Result<usize, AllocError>
         ensures found { IfOk result (StandsAt self.new label.now) }
         ensures labels { OnOk result (self.new ≡ with_label self.old label.now) }
         ensures kept { OnErr result (self.new ≡ self.old) }
@@ -405,13 +514,23 @@ impl Numbering {
         insert(alloc, &mut self.labels, label)
     }
 
-    /// Looks at the first entry for each short label of these rows, and makes room for as many as have a blank one there.
+    /// Looks at the first entry for each label of these rows, and makes room for as many as have a blank one there.
     /// No look waits for another. Where memory is refused, the table is left as it is.
     pub(crate) fn look_ahead(&mut self, alloc: Global, rows: &[Row])
         ensures { self.new ≡ self.old }
     {
         if self.entries.len() > IN_CACHE {
             let new = count_new(&self.entries, rows);
+            let _room = self.make_room(alloc, new);
+        }
+    }
+
+    /// Makes a larger table for the labels of records that were cut, if they might not fit.
+    pub(crate) fn look_ahead_cut(&mut self, alloc: Global, records: &[CutRecord])
+        ensures { self.new ≡ self.old }
+    {
+        if self.entries.len() > IN_CACHE {
+            let new = count_new_cut(&self.entries, records);
             let _room = self.make_room(alloc, new);
         }
     }

@@ -40,7 +40,7 @@ fn without_read(read: Result<u64, EdgeError>) -> Result<u64, EdgeError>
 }
 
 // Adds the records of some lines, which follow `number` others, and tells how many there are then.
-fn read_lines(
+pub(crate) fn read_lines(
     reading: &mut Reading,
     alloc: Global,
     rows: &mut [Row],

@@ -1,10 +1,11 @@
 //! Reading edge lists.
 
 ghost use Rattle.std.specs.Prelude.{◌≡◌, ◌≢◌, ◌≤◌, ◌<◌, ◌+◌, ℕ, List, Result, true};
-ghost use Rattle.std.specs.Prelude.{false, Ok, Err, IfOk, IfErr};
+ghost use Rattle.std.specs.Prelude.{false, Ok, Err, IfOk, IfErr, IfSome, IfNone};
 ghost use Rattle.std.specs.Prelude.{OnOk, OnErr, length, slice_index_or, [], ◌∷◌};
 ghost use Rattle.std.specs.Prelude.{◌++◌, ◌*◌, take};
 ghost use Rattle.std.specs.List.{All};
+ghost use Rattle.std.specs.List.Sorted.{IsPermutation};
 ghost use Rattle.std.specs.Io.KnownBytes.{ReadConsumes};
 ghost use Rattle.std.specs.Io.{ReadsAtMost};
 ghost use Rattle.csv.specs.Reading.{is_io, error_kind};
@@ -24,18 +25,21 @@ ghost use Rattle.edgelist.specs.Reading.{with_label, network_by};
 ghost use Rattle.edgelist.specs.Reading.{AreWithin, AddsEdge, Exceeds, AddsRecord, Stops};
 ghost use Rattle.edgelist.specs.Reading.{EndsAtEnd, EndsAtFault};
 
+use crate::cut::Cut;
 use crate::edge::Edge;
 use crate::graph::Graph;
 use crate::numbering::{LabelWord, Numbering};
 use crate::records::reader_of;
 use crate::row::{AT_ONCE, Row, rows_for};
+use crate::sort::sort_parts;
 use ball_model::CountedRead;
 use ball_model::plan::{MOST_VERTICES, USUAL_VERTICES};
 use csv::Reader;
-use std::alloc::{AllocError, Global};
+use std::alloc::{AllocError, AllocGlobal, Global};
 use std::hash::RandomState;
 use std::io;
 use std::io::{ErrorKind, Read};
+use std::thread::Threads;
 use thiserror::Error;
 
 /// Why an edge list is refused.
@@ -123,6 +127,9 @@ pub struct EdgeList {
     /// How many records it has. Those of one field, and edges that were read before, count too.
     pub records: u64,
 }
+
+// The entries of so many records are looked at at once.
+const AHEAD: usize = 32;
 
 // The labels so far, numbered by first appearance, and the edges.
 pub(crate) struct Reading {
@@ -342,6 +349,94 @@ impl Reading {
         Ok(())
     }
 
+    // Adds record i of those that were cut, which follows `number` others; there is room for it and its labels.
+    fn add_one_cut(
+        &mut self,
+        alloc: Global,
+        cut: &Cut,
+        i: usize,
+        number: u64,
+        limits: EdgeLimits,
+    ) -> Result<(), EdgeError>
+        requires place { i < length cut.now }
+        requires number { number < limits.edges }
+        requires room { length self.old.labels + 2 ≤ limits.vertices }
+        ensures adds { OnOk result (AddsRecord (limits_of limits) number
+            (slice_index_or cut.now i []) self.old.labels self.old.edges.items
+            self.new.labels self.new.edges.items) }
+        ensures grows { OnOk result (length self.new.labels ≤ length self.old.labels + 2) }
+        ensures memory { IfErr result (λ e. e ≡ Memory) }
+    {
+        let (source, target) = cut.labels(i);
+        let (source_word, target_word) = cut.words(i);
+        match target {
+            None => self.add_vertex(alloc, source, source_word, limits.vertices),
+            Some(target) => self.add_edge(
+                alloc,
+                source,
+                source_word,
+                target,
+                target_word,
+                limits.vertices,
+            ),
+        }
+    }
+
+    /// Makes room for so many edges more, if there is memory. An edge for which there is none makes it when it is added.
+    pub(crate) fn make_room(&mut self, count: usize)
+        ensures labels { self.new.labels ≡ self.old.labels }
+        ensures edges { self.new.edges.items ≡ self.old.edges.items }
+    {
+        let _room = self.edges.reserve(count);
+    }
+
+    // Looks at the entries of the labels of the records from i on, where i is the first of so many.
+    fn look_ahead_from(&mut self, alloc: Global, cut: &Cut, i: usize)
+        ensures labels { self.new.labels ≡ self.old.labels }
+        ensures edges { self.new.edges.items ≡ self.old.edges.items }
+    {
+        if i % AHEAD == 0 {
+            let records = cut.records();
+            if i < records.len() {
+                let end = records.len().min(i + AHEAD);
+                self.labels.look_ahead_cut(alloc, &records[i..end]);
+            }
+        }
+    }
+
+    /// Adds records that were cut and follow `number` others; there is room for all of them and their labels.
+    pub(crate) fn add_cut(
+        &mut self,
+        alloc: Global,
+        cut: &Cut,
+        number: u64,
+        limits: EdgeLimits,
+    ) -> Result<(), EdgeError>
+        requires few { limits.edges ≤ most_records }
+        requires number { number + length cut.now ≤ limits.edges }
+        requires room { length self.old.labels + 2 * length cut.now ≤ limits.vertices }
+        ensures adds { OnOk result (AddsRecords (limits_of limits) number cut.now
+            self.old.labels self.old.edges.items self.new.labels self.new.edges.items) }
+        ensures memory { IfErr result (λ e. e ≡ Memory) }
+    {
+        for i in 0..cut.len() {
+            self.look_ahead_from(alloc, cut, i);
+            self.add_one_cut(alloc, cut, i, number + i as u64, limits)?;
+        }
+        Ok(())
+    }
+
+    /// Whether so many records can be added behind `number` others without passing a limit, even if all their labels are
+    /// new and differ.
+    pub(crate) fn has_room(&self, count: usize, number: u64, limits: EdgeLimits) -> bool
+        requires number { number ≤ limits.edges }
+        requires labels { length self.now.labels ≤ limits.vertices }
+        ensures number { result ≡ true → number + count ≤ limits.edges }
+        ensures room { result ≡ true → length self.now.labels + 2 * count ≤ limits.vertices }
+    {
+        self.room_for(count, number, limits) >= count
+    }
+
     // `most`, where so many records of the right form can be added behind `number` others without passing a limit,
     // even if all their labels are new and differ; and else 0. Then records are read and added one at a time, so that
     // none is asked for after the one that is refused.
@@ -444,7 +539,7 @@ impl Reading {
         Err(EdgeError::TooManyEdges)
     }
 
-    // The graph that was read. The set of labels is gone before the edges are sorted.
+    // The graph that was read. The set of labels is gone before the lists are made.
     fn into_graph(self, alloc: Global) -> Result<Graph, AllocError>
         requires within { AreWithin most_vertices most_records self.labels self.edges.items }
         ensures graph { IfOk result (λ g.
@@ -469,6 +564,34 @@ impl Reading {
             graph,
             records: number,
         })
+    }
+}
+
+impl Reading {
+    // Brings the edges into their order, by so many threads.
+    fn sort_by<R: Threads + Sync>(&mut self, rt: &R, threads: usize)
+        ensures labels { self.new.labels ≡ self.old.labels }
+        ensures edges { IsPermutation self.old.edges.items self.new.edges.items }
+        ensures len { length self.new.edges.items ≡ length self.old.edges.items }
+    {
+        sort_parts(rt, &mut self.edges, threads);
+    }
+
+    /// The edge list that was read, of so many records, whose edges so many threads sort.
+    pub(crate) fn into_list_by<R: AllocGlobal + Threads + Sync>(
+        mut self,
+        rt: &R,
+        number: u64,
+        threads: usize,
+    ) -> Result<EdgeList, EdgeError>
+        requires within { AreWithin most_vertices most_records self.labels self.edges.items }
+        ensures graph { IfOk result (λ list.
+            list.graph ≡ network_by self.labels self.edges.items) }
+        ensures number { IfOk result (λ list. list.records ≡ number) }
+        ensures memory { IfErr result (λ e. e ≡ Memory) }
+    {
+        self.sort_by(rt, threads);
+        self.into_list(rt.alloc(), number)
     }
 }
 
@@ -566,7 +689,10 @@ impl<'a, R: CountedRead> Read for Counted<'a, R> {
 }
 
 // What is answered of an edge list that was read: `Read` where a call of the reader failed, and nowhere else.
-fn read_answer(read: Result<EdgeList, EdgeError>, failed: bool) -> Result<EdgeList, EdgeError>
+pub(crate) fn read_answer(
+    read: Result<EdgeList, EdgeError>,
+    failed: bool,
+) -> Result<EdgeList, EdgeError>
     ensures ok { IfOk result (λ list. read ≡ Ok list) }
     ensures refused { (says : Result Network Refusal) → IfErr read (Refuses says) →
         IfErr result (Refuses says) }
@@ -627,7 +753,8 @@ fn read_counted<R: CountedRead>(
 /// The limits in force are never above 2^24 vertices and 2^26 records.
 ///
 /// The errors are those of the first record where a check fails, in the order `TooManyEdges`, `Fields`,
-/// `TooManyVertices`. `Read` is answered where a call of the reader failed and nowhere else.
+/// `TooManyVertices`. `Read` is answered if a call of the reader failed (while failures can be counted), and at no other
+/// time.
 ///
 /// Its parts are made so, and no clause of this call says it: at most one record more than the limit is asked for, a
 /// label that is known takes no memory of its own, and a call of the reader that failed is not made again.

@@ -2,18 +2,20 @@
 
 mod counting;
 mod damage;
+mod job;
 mod labels;
 mod large;
 mod parts;
 mod pieces;
 mod reading;
 mod refusals;
+mod rounds;
 
 ghost use Rattle.std.specs.Prelude.{None};
 
 use crate::{
-    CountedError, Delimiter, EdgeError, EdgeLimits, EdgeList, EdgeReader, Graph, Part, Preds, laws,
-    read_edge_list, read_edges, read_large_edge_list,
+    CountedError, Delimiter, EdgeError, EdgeLimits, EdgeList, EdgeReader, Graph, JobOptions,
+    NetworkError, Part, Preds, laws, read_edge_list, read_edges, read_large_edge_list,
 };
 use ball_model::{CountingReader, Estimate, PlanError};
 use sha2::{Digest, Sha256};
@@ -195,6 +197,18 @@ static LIST_TEXTS: [(CountedError, &str); 3] = [
     (CountedError::Memory, "out of memory"),
 ];
 
+/// The texts of the errors of both.
+static NETWORK_TEXTS: [(NetworkError, &str); 2] = [
+    (
+        NetworkError::Edges(EdgeError::TooManyVertices),
+        "too many vertices",
+    ),
+    (
+        NetworkError::Counted(CountedError::Unknown { number: 3 }),
+        "record 3 of the list names no vertex",
+    ),
+];
+
 /// Whether an error has this text.
 fn has_text<E: Display>(alloc: Global, error: &E, text: &str) -> bool {
     match format!(in alloc; "{error}") {
@@ -214,7 +228,9 @@ fn have_texts<E: Display>(alloc: Global, texts: &[(E, &str)]) -> bool {
 
 #[test]
 fn error_texts(rt: HostRuntime) {
-    assert!(rt; have_texts(rt.alloc(), &EDGE_TEXTS) && have_texts(rt.alloc(), &LIST_TEXTS));
+    let alloc = rt.alloc();
+    let right = have_texts(alloc, &EDGE_TEXTS) && have_texts(alloc, &LIST_TEXTS);
+    assert!(rt; right && have_texts(alloc, &NETWORK_TEXTS));
 }
 
 #[test]

@@ -32,7 +32,7 @@ in_steps dividend high low by some is =
     split : (q r : ℕ) → q * by + r ≡ high → dividend ≡ by * (q * 2 ^ 20) + (r * 2 ^ 20 + low)
     split q r parts = grind (arith, parts, is)
 
--- the same, as words of 64 bits have it
+-- the division in two steps, as words of 64 bits have it
 pub two_steps : (dividend by : ℕ) → 0 < by → by ≤ 2 ^ 43 → dividend / by < 2 ^ 63 →
     dividend / 2 ^ 20 / by * 2 ^ 20 % 2 ^ 64 + (dividend / 2 ^ 20 % by * 2 ^ 20 % 2 ^ 64 + dividend % 2 ^ 20) / by ≡ dividend / by
 two_steps dividend by some few small =

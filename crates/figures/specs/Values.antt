@@ -58,7 +58,7 @@ figures_of e row tally = record {
 unfoldable pub figures_from : List (List ℕ) → List TallyValue → List Figures
 figures_from rows tallies = map (λ p. figures_of p.1.last p.0 p.1) (zip rows tallies)
 
--- the same, with the raw estimate of the row, of 2^log2m registers
+-- the figures of each vertex, with the raw estimate of its row, of 2^log2m registers
 unfoldable pub raw_figures_from : ℕ → List (List ℕ) → List TallyValue → List Figures
 raw_figures_from log2m rows tallies =
     map (λ p. figures_of (estimate_of log2m p.0) p.0 p.1) (zip rows tallies)

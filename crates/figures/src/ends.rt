@@ -36,7 +36,7 @@ pub struct Figures {
 /// [`lin`] and [`Rows::empty_count`] give. The estimate is the raw one of the row. The error is that memory was refused.
 ///
 /// The work is dealt out to as many threads as there are processors; what comes out is the same for every split.
-/// Fewer than 2,048 vertices are done in one thread.
+/// Fewer than 2,048 vertices are done in one thread. For a library's user: the program does not call it.
 pub fn final_figures(
     rt: &(impl Threads + Sync),
     alloc: Global,

@@ -270,7 +270,7 @@ static THREE: [(u64, u64, u64, u128, u32); 3] = [
     (11_680_542, 382_969, 2_611_177, 356_256_149, 14),
 ];
 
-// The same, of the raw estimates of the rows.
+// The figures of these vertices with the raw estimates of their rows.
 static RAW_THREE: [(u64, u64, u64, u128, u32); 3] = [
     (10_768_000, 0, 0, 1_000_000, 16),
     (11_390_942, 0, 0, 1_000_000, 15),
@@ -290,7 +290,7 @@ fn rows_are_told<H: AllocGlobal + Threads + Sync>(rt: &H, rows: &Rows) -> Result
     Ok([raw, all, later])
 }
 
-// The same of rows of no, one and two registers above 0.
+// Whether the figures of rows of no, one and two registers above 0 are those of the tables.
 fn three_are_told<H: AllocGlobal + Threads + Sync>(rt: &H) -> Result<[bool; 3], Fail> {
     let mut rows = Rows::fixed(rt.alloc(), 3, 16)?;
     rows.raise_one(1, 14, 3);

@@ -34,7 +34,7 @@ next_is n least bits h =
     let fits : least + gap ≤ beyond = ltb-false beyond (least + gap) g.0 in
     (gap, more, record { read = a.1; fits = fits; some = code.1; rest = (b.0, b.1); split = split_is n least gap bits more b.0 a.1 fits b.1 })
 
--- the same of a count that is not 0
+-- what comes next, of a count that is not 0
 pub next_of : (left least : ℕ) (bits : List Bool) → 0 < left → (x : List ℕ × List Bool) × (elements_at beyond left least bits ≡ Ok x) → (gap : ℕ) × (more : List Bool) × (gamma_at bits ≡ Ok (gap, more)) × (least + gap ≤ beyond) × (0 < gap)
     × ((x : List ℕ × List Bool) × (elements_at beyond (left - 1) (least + gap) more ≡ Ok x)) × (elements_of left least bits ≡ (least + (gap - 1)) ∷ elements_of (left - 1) (least + gap) more)
 next_of zero least bits pos h = absurd (omega arith)

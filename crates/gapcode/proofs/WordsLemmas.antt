@@ -135,7 +135,7 @@ at_place bytes position =
     let e : 8 * (position / 8) + position % 8 ≡ position = omega arith in
     ap (λ (k : ℕ). drop k (bits_of bytes)) (sym e) ∙ sym (drop-drop (position % 8) (8 * (position / 8)) (bits_of bytes)) ∙ ap (drop (position % 8)) (bits_of-drop (position / 8) bytes)
 
--- the same, with the bytes from the place's on
+-- the bits from a place on, with the bytes from the place's on
 pub at_rest : (bytes rest : List ℕ) (place : ℕ) → rest ≡ drop (place / 8) bytes → drop place (bits_of bytes) ≡ drop (place % 8) (bits_of rest)
 at_rest bytes rest place e = at_place bytes place ∙ ap (λ (t : List ℕ). drop (place % 8) (bits_of t)) (sym e)
 

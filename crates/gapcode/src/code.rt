@@ -46,7 +46,7 @@ fn next_word(bytes: &[u8], position: u32) -> u64
     }
 }
 
-// The same, near the end too, and of any length.
+// Decodes a code near the end too, and of any length.
 #[cold]
 #[inline(never)]
 fn any_code(bytes: &[u8], position: u32) -> Result<(u64, u32), CodeError>

@@ -44,6 +44,8 @@ impl Model for Lists {
 
 impl Lists {
     /// These lists, in their order. The error is that memory was refused.
+    ///
+    /// For a library's user: the program does not call it.
     pub fn build(alloc: Global, lists: &[Vec<u32>]) -> Result<Lists, AllocError>
         requires { All (λ list. AscendsFrom 0 list.items) lists.now }
         ensures { IfOk result (λ built. built ≡ map (λ list. list.items) lists.now) }
@@ -81,7 +83,7 @@ impl Lists {
         middle_of(&self.places, from, to)
     }
 
-    /// The bytes that spell the lists.
+    /// The bytes that spell the lists. For a library's user: the program does not call it.
     pub fn bytes(&self) -> &[u8]
         ensures spelling { IsSpelling result.now self.now }
         ensures ascend { AreAscending beyond self.now }
@@ -92,7 +94,7 @@ impl Lists {
     /// The lists that these bytes spell: so many of them, of numbers below the bound.
     ///
     /// The first fault from the left is told: `Ended`, `TooLong` and `Range` by the place of reading, then `Padding`,
-    /// `Trailing` and, where all checks passed, `Memory`.
+    /// `Trailing` and, where all checks passed, `Memory`. For a library's user: the program does not call it.
     pub fn read(alloc: Global, bytes: &[u8], count: usize, bound: u32) -> Result<Lists, CodeError>
         // What is found is spelled by the bytes, and so many lists of numbers below the bound.
         ensures found { IfOk result (λ lists. AreSpelled bound count bytes.now lists) }

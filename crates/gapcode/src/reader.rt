@@ -78,7 +78,7 @@ fn take_code(reader: &mut BitReader<'_>) -> Result<u64, CodeError>
 /// The number whose gamma code comes next (Elias 1975).
 ///
 /// It is `TooLong` where 64 zero bits come next, else `Ended` where no whole code does; either leaves the reader
-/// where it was.
+/// where it was. For a library's user: the program does not call it.
 pub fn get_gamma(reader: &mut BitReader<'_>) -> Result<u64, CodeError>
     // What is found is the code that comes next, and the reader moves past it.
     ensures found { IfOk result (λ x. rest reader.old ≡ gamma x ++ rest reader.new) }

@@ -5,7 +5,7 @@ use Rattle.clap.specs.Words.{AddsArg, App, Rule, rule_of, with_rule}
 use Rattle.clap.specs.declared.builder.arg.Arg.{Arg}
 use Rattle.clap.specs.declared.builder.command.Command.{Command}
 use Rattle.hyperball.specs.CommandLine.{IsApp, rule_in, with_arguments}
-use Rattle.hyperball.specs.declared.arguments.Argument.{Argument}
+use Rattle.hyperball.specs.declared.cli.arguments.Argument.{Argument}
 
 -- with one argument more, which is for this command alone
 pub one_more : (app : App) (old new : Command) (a : Arg) (r : Rule) → IsApp app old → AddsArg old a new → a.global ≡ false → rule_of a ≡ r → IsApp (with_rule app r) new

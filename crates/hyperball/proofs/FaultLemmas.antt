@@ -3,10 +3,10 @@ use Rattle.std.proofs.Common.{◌≡◌, ◌∙◌, subst, sym}
 use Rattle.std.specs.Prelude.{Err, IfErr, Ok, Result}
 use Rattle.node.specs.declared.error.GatherError.{GatherError}
 use Rattle.hyperball.specs.Faults.{told_of_gathering}
-use Rattle.hyperball.specs.declared.nodes.GatherFault.TheVariants as ungathered
-use Rattle.hyperball.specs.declared.nodes.GatherFault.{GatherFault}
-use Rattle.hyperball.specs.declared.nodes.NodeFault.{NodeFault}
-use Rattle.hyperball.specs.declared.replaying.ReplayFault.{ReplayFault}
+use Rattle.hyperball.specs.declared.cli.gather.GatherFault.TheVariants as ungathered
+use Rattle.hyperball.specs.declared.cli.gather.GatherFault.{GatherFault}
+use Rattle.hyperball.specs.declared.cli.one_node.NodeFault.{NodeFault}
+use Rattle.hyperball.specs.declared.cli.replay.ReplayFault.{ReplayFault}
 
 pub same_node_fault : (x y : NodeFault) → ◌≡◌ {A = Result (Unit {0}) NodeFault} (Err x) (Err y) → x ≡ y
 same_node_fault x y is = cc

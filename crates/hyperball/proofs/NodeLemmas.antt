@@ -2,13 +2,13 @@
 use Rattle.std.proofs.Common.{◌≡◌, ◌∙◌, Bool, subst, sym}
 use Rattle.hyperball.specs.Replaying.{SaysRun}
 use Rattle.hyperball.specs.Words.{SaysProgress}
-use Rattle.hyperball.specs.declared.node_words.GatherWords.{GatherWords}
-use Rattle.hyperball.specs.declared.node_words.NodeWords.{NodeWords}
-use Rattle.hyperball.specs.declared.replay_words.ReplayWords.{ReplayWords}
-use Rattle.hyperball.specs.declared.words.RunWords.{RunWords}
-use Rattle.hyperball.specs.declared.words.Said.{Said}
-use Rattle.hyperball.specs.declared.words.Wish.{Wish}
-use Rattle.hyperball.specs.declared.words.Wish.TheVariants as wish
+use Rattle.hyperball.specs.declared.cli.gather.GatherWords.{GatherWords}
+use Rattle.hyperball.specs.declared.cli.one_node.NodeWords.{NodeWords}
+use Rattle.hyperball.specs.declared.cli.replay.ReplayWords.{ReplayWords}
+use Rattle.hyperball.specs.declared.cli.run.RunWords.{RunWords}
+use Rattle.hyperball.specs.declared.cli.run.Said.{Said}
+use Rattle.hyperball.specs.declared.cli.Wish.{Wish}
+use Rattle.hyperball.specs.declared.cli.Wish.TheVariants as wish
 
 pub same_node : (x : Wish) (v w : NodeWords) → x ≡ wish.Node v → x ≡ wish.Node w → v ≡ w
 same_node x v w is says = let e = sym is ∙ says in cc

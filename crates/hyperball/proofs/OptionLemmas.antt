@@ -7,11 +7,11 @@ use Rattle.clap.specs.declared.parser.matches.Found.{Found}
 use Rattle.clap.proofs.WalkLemmas.{first_value-rows, one_text-rows}
 use Rattle.ball_model.specs.declared.plan.Estimate.{Estimate}
 use Rattle.edgelist.specs.declared.read.Delimiter.{Delimiter}
-use Rattle.node.specs.declared.job.JobOptions.{JobOptions}
-use Rattle.hyperball.specs.declared.node_words.GatherWords.{GatherWords}
-use Rattle.hyperball.specs.declared.node_words.NodeWords.{NodeWords}
-use Rattle.hyperball.specs.declared.replay_words.ReplayWords.{ReplayWords}
-use Rattle.hyperball.specs.declared.words.RunWords.{RunWords}
+use Rattle.node.specs.declared.job.JobInput.{JobInput}
+use Rattle.hyperball.specs.declared.cli.gather.GatherWords.{GatherWords}
+use Rattle.hyperball.specs.declared.cli.one_node.NodeWords.{NodeWords}
+use Rattle.hyperball.specs.declared.cli.replay.ReplayWords.{ReplayWords}
+use Rattle.hyperball.specs.declared.cli.run.RunWords.{RunWords}
 use Rattle.ball_model.specs.declared.names.NodeId.{NodeId}
 use Rattle.hyperball.specs.Orders.{AreOrders, SpellsOrders}
 use Rattle.hyperball.specs.Words.{IsFlag, IsListed, IsNamedOr, IsNumber, IsNumberOr, SpellLists, flag_text}
@@ -57,16 +57,16 @@ pub same_replay_words : (log2m seed parts limit replicas : ℕ) (e : Estimate) (
     ◌≡◌ {A = ReplayWords} (record { options = record { log2m = log2m; seed = seed; parts = parts; limit = limit; replicas = replicas; estimate = e; delimiter = d }; counted = counted; progress = progress }) w
 same_replay_words log2m seed parts limit replicas e d counted progress w a b p l r k g h t = λ i. record { options = record { log2m = a i; seed = b i; parts = p i; limit = l i; replicas = r i; estimate = k i; delimiter = g i }; counted = h i; progress = t i }
 
-pub same_job_options : (log2m seed parts limit : ℕ) (e : Estimate) (d : Delimiter) (large counted : Bool) (o : JobOptions) → log2m ≡ o.log2m → seed ≡ o.seed → parts ≡ o.parts → limit ≡ o.limit →
-    e ≡ o.estimate → d ≡ o.delimiter → large ≡ o.large → counted ≡ o.counted →
-    ◌≡◌ {A = JobOptions} (record { log2m = log2m; seed = seed; parts = parts; limit = limit; estimate = e; delimiter = d; large = large; counted = counted }) o
-same_job_options log2m seed parts limit e d large counted o a b p l k g z h = λ i. record { log2m = a i; seed = b i; parts = p i; limit = l i; estimate = k i; delimiter = g i; large = z i; counted = h i }
+pub same_job : (log2m seed parts limit : ℕ) (e : Estimate) (d : Delimiter) (large : Bool) (threads : ℕ) (counted : Bool) (o : JobInput) → log2m ≡ o.options.log2m → seed ≡ o.options.seed → parts ≡ o.options.parts → limit ≡ o.options.limit →
+    e ≡ o.options.estimate → d ≡ o.options.delimiter → large ≡ o.options.large → threads ≡ o.options.threads → counted ≡ o.counted →
+    ◌≡◌ {A = JobInput} (record { options = record { log2m = log2m; seed = seed; parts = parts; limit = limit; estimate = e; delimiter = d; large = large; threads = threads }; counted = counted }) o
+same_job log2m seed parts limit e d large threads counted o a b p l k g z t h = λ i. record { options = record { log2m = a i; seed = b i; parts = p i; limit = l i; estimate = k i; delimiter = g i; large = z i; threads = t i }; counted = h i }
 
-pub same_node_words : (o : JobOptions) (part : ℕ) (progress : Bool) (w : NodeWords) → o ≡ w.options → part ≡ w.part → progress ≡ w.progress → ◌≡◌ {A = NodeWords} (record { options = o; part = part; progress = progress }) w
-same_node_words o part progress w a p t = λ i. record { options = a i; part = p i; progress = t i }
+pub same_node_words : (o : JobInput) (part : ℕ) (progress : Bool) (w : NodeWords) → o ≡ w.job → part ≡ w.part → progress ≡ w.progress → ◌≡◌ {A = NodeWords} (record { job = o; part = part; progress = progress }) w
+same_node_words o part progress w a p t = λ i. record { job = a i; part = p i; progress = t i }
 
-pub same_gather_words : (o : JobOptions) (threads : ℕ) (progress : Bool) (w : GatherWords) → o ≡ w.options → threads ≡ w.threads → progress ≡ w.progress → ◌≡◌ {A = GatherWords} (record { options = o; threads = threads; progress = progress }) w
-same_gather_words o threads progress w a n t = λ i. record { options = a i; threads = n i; progress = t i }
+pub same_gather_words : (o : JobInput) (progress : Bool) (w : GatherWords) → o ≡ w.job → progress ≡ w.progress → ◌≡◌ {A = GatherWords} (record { job = o; progress = progress }) w
+same_gather_words o progress w a t = λ i. record { job = a i; progress = t i }
 
 -- a text that was read is given
 pub given_is : (f : Found) (id : Text) (text : Option Text) → text ≡ first_value f id → is_some text ≡ true → is_some (first_of id (rows_of f)) ≡ true

@@ -4,15 +4,16 @@ use Rattle.std.specs.Prelude.{Option, None, Some, IfSome, option_map}
 use Rattle.ball_model.specs.Input.{IsPlain}
 use Rattle.ball_model.specs.RunText.{ArePlain, Settings}
 use Rattle.ball_model.specs.Sections.{sections_of}
-use Rattle.workers.specs.Options.{run_settings_of}
+use Rattle.edgelist.specs.Job.{settings_of}
+use Rattle.workers.specs.Options.{run_job}
 use Rattle.edgelist.specs.Records.{ForPlain}
 use Rattle.workers.specs.Run.{IsRunRefusal, RefusesEdges}
 use Rattle.workers.specs.declared.bytes.RunError.{RunError}
 use Rattle.workers.specs.declared.options.RunOptions.{RunOptions}
 use Rattle.hyperball.specs.Refusals.{IsFault, RefusesInput}
 use Rattle.hyperball.specs.Whole.{IsWholeInput}
-use Rattle.hyperball.specs.declared.serve.RunFault.{RunFault}
-use Rattle.hyperball.specs.declared.serve.RunFault.TheVariants as fault
+use Rattle.hyperball.specs.declared.cli.run.RunFault.{RunFault}
+use Rattle.hyperball.specs.declared.cli.run.RunFault.TheVariants as fault
 
 -- the two sections of an input, of which this error is told
 pub refuses_both : (s : Settings) (input edges first list : List ℕ) (e : RunError) → Some (edges, list) ≡ sections_of input → first ≡ edges →
@@ -33,7 +34,7 @@ told_whole o told bytes seen (fault.Input e) whole same says = tt
 told_whole o None bytes seen fault.NoList whole same says = tt
 told_whole o (Some input) bytes seen fault.NoList whole same says = subst (λ l. IsFault o true (Some l) fault.NoList) (same ∙ whole) says
 told_whole o None bytes seen (fault.Run e) whole same says = (says.0, tt)
-told_whole o (Some input) bytes seen (fault.Run e) whole same says = (says.0, subst (λ l. RefusesInput (run_settings_of o) true l e) (same ∙ whole) says.1)
+told_whole o (Some input) bytes seen (fault.Run e) whole same says = (says.0, subst (λ l. RefusesInput (settings_of (run_job o)) true l e) (same ∙ whole) says.1)
 
 -- an input without a list, of which this error is told
 pub refuses_edges : (s : Settings) (told : Option (List ℕ)) (e : RunError) → ForPlain told (λ input. RefusesEdges s input e) → IfSome told (λ input. ArePlain input None → IsRunRefusal s input None e) → IfSome told (λ input. RefusesInput s false input e)

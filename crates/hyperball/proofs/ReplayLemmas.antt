@@ -2,20 +2,20 @@
 use Rattle.std.proofs.Common.{◌≡◌, ◌≢◌, ◌∙◌, ◌⊎◌, ℕ, Bool, List, inl, inr, refl, subst, sym}
 use Rattle.std.specs.Prelude.{Option, None, Some, IfSome}
 use Rattle.std.specs.Io.KnownBytes.{Keeps}
-use Rattle.ball_model.specs.Streams.{Rises}
+use Rattle.ball_model.specs.Streams.{RisesByOne}
 use Rattle.world.specs.declared.replay.ReplayError.{ReplayError}
 use Rattle.world.specs.declared.replay.ReplayError.TheVariants as fault
 use Rattle.clap.specs.Words.{Text}
 use Rattle.hyperball.specs.Nodes.{AsksGather, AsksNode}
 use Rattle.hyperball.specs.Replaying.{AsksReplay, BeginsAnswers, BeginsSome, FailsIn, FailsOver, Leaves, SaysRun}
 use Rattle.hyperball.specs.Words.{SaysProgress}
-use Rattle.hyperball.specs.declared.replay_words.ReplayWords.{ReplayWords}
-use Rattle.hyperball.specs.declared.replaying.ReplayFault.{ReplayFault}
-use Rattle.hyperball.specs.declared.replaying.ReplayFault.TheVariants as unserved
-use Rattle.hyperball.specs.declared.words.Said.{Said}
-use Rattle.hyperball.specs.declared.words.RunWords.{RunWords}
-use Rattle.hyperball.specs.declared.words.Wish.{Wish}
-use Rattle.hyperball.specs.declared.words.Wish.TheVariants as wish
+use Rattle.hyperball.specs.declared.cli.replay.ReplayWords.{ReplayWords}
+use Rattle.hyperball.specs.declared.cli.replay.ReplayFault.{ReplayFault}
+use Rattle.hyperball.specs.declared.cli.replay.ReplayFault.TheVariants as unserved
+use Rattle.hyperball.specs.declared.cli.run.Said.{Said}
+use Rattle.hyperball.specs.declared.cli.run.RunWords.{RunWords}
+use Rattle.hyperball.specs.declared.cli.Wish.{Wish}
+use Rattle.hyperball.specs.declared.cli.Wish.TheVariants as wish
 
 -- a fault that says that memory was refused or that a write failed, or neither
 pub which : (e : ReplayError) → (e ≡ fault.Memory) ⊎ ((e ≡ fault.Write) ⊎ ((e ≢ fault.Memory) × (e ≢ fault.Write)))
@@ -34,7 +34,7 @@ begun (Some input) w old new a b e is fails = record { parts = fails.parts; foun
 
 -- what each fault leaves
 pub stops : (told : Option (List ℕ)) (w : ReplayWords) (old new : Option (List ℕ)) (a b : ℕ) (f : ReplayFault) → IfSome told (λ input. FailsOver w input old new a b f) → Leaves old new a b f →
-    (Keeps old new ⊎ Rises a b) ⊎ IfSome told (λ input. BeginsAnswers w input old new)
+    (Keeps old new ⊎ RisesByOne a b) ⊎ IfSome told (λ input. BeginsAnswers w input old new)
 stops told w old new a b unserved.Random fails left = inl (inl left)
 stops told w old new a b (unserved.Input e) fails left = inl (inl left)
 stops told w old new a b unserved.NoList fails left = inl (inl left)
@@ -69,6 +69,6 @@ replay_tells x w b is = subst (SaysProgress b) is
 
 -- a replay that stopped, of words that ask for one
 pub some_begun : (words : List Text) (told old new : Option (List ℕ)) (a b : ℕ) (w : ReplayWords) → AsksReplay words →
-    (Keeps old new ⊎ Rises a b) ⊎ IfSome told (λ input. BeginsAnswers w input old new) → (Keeps old new ⊎ Rises a b) ⊎ (BeginsSome words told old new ⊎ (AsksNode words ⊎ AsksGather words))
+    (Keeps old new ⊎ RisesByOne a b) ⊎ IfSome told (λ input. BeginsAnswers w input old new) → (Keeps old new ⊎ RisesByOne a b) ⊎ (BeginsSome words told old new ⊎ (AsksNode words ⊎ AsksGather words))
 some_begun words told old new a b w asks (inl left) = inl left
 some_begun words told old new a b w asks (inr begun) = inr (inl (record { asks = asks; words_of = w; begun = begun }))

@@ -7,7 +7,7 @@ use Rattle.hyperball.specs.Options.{settings_in}
 use Rattle.hyperball.specs.Whole.{IsWholeInput, sections_in}
 use Rattle.hyperball.specs.Words.{Reports, listed_words}
 use Rattle.hyperball.specs.declared.options.Options.{Options}
-use Rattle.hyperball.specs.declared.words.RunWords.{RunWords}
+use Rattle.hyperball.specs.declared.cli.run.RunWords.{RunWords}
 
 -- the two sections of an input, whose report was appended
 pub cut : (input edges first list : List ℕ) (options : Options) (old new : Option (List ℕ)) → Some (edges, list) ≡ sections_of input → first ≡ edges →

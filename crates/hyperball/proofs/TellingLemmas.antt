@@ -120,6 +120,7 @@ news-no_end : (news : Told) → HasNoEnd (news_text news)
 news-no_end (told.NoLog2m log2m) = foretold-no_end (codes "no plan has log2m ") log2m (codes " (4 to 10 are allowed): the job will be refused once the edge list is read") refl refl
 news-no_end (told.NoParts parts) = foretold-no_end (codes "no plan has parts ") parts (codes " (1 to 64 are allowed): the job will be refused once the edge list is read") refl refl
 news-no_end (told.NoLimit limit) = foretold-no_end (codes "no plan has limit ") limit (codes " (1 to 4096 are allowed): the job will be refused once the edge list is read") refl refl
+news-no_end (told.Reading records) = joined (decimal records) (codes " records are read so far") (decimal-no_end records) (seen (codes " records are read so far") refl)
 news-no_end (told.Read records vertices) =
     joined (decimal records ++ codes " records and " ++ decimal vertices) (codes " vertices are read")
     (numbered (decimal records) (codes " records and ") vertices (decimal-no_end records) refl)

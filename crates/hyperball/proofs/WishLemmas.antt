@@ -1,13 +1,13 @@
 -- What words ask for.
 use Rattle.std.proofs.Common.{◌≡◌, Ok, refl, subst, sym}
 use Rattle.std.specs.Prelude.{IfOk, Result}
-use Rattle.hyperball.specs.declared.node_words.GatherWords.{GatherWords}
-use Rattle.hyperball.specs.declared.node_words.NodeWords.{NodeWords}
-use Rattle.hyperball.specs.declared.replay_words.ReplayWords.{ReplayWords}
-use Rattle.hyperball.specs.declared.words.Said.{Said}
-use Rattle.hyperball.specs.declared.words.Wish.{Wish}
-use Rattle.hyperball.specs.declared.words.Wish.TheVariants as wish
-use Rattle.hyperball.specs.declared.words.WordsError.{WordsError}
+use Rattle.hyperball.specs.declared.cli.gather.GatherWords.{GatherWords}
+use Rattle.hyperball.specs.declared.cli.one_node.NodeWords.{NodeWords}
+use Rattle.hyperball.specs.declared.cli.replay.ReplayWords.{ReplayWords}
+use Rattle.hyperball.specs.declared.cli.run.Said.{Said}
+use Rattle.hyperball.specs.declared.cli.Wish.{Wish}
+use Rattle.hyperball.specs.declared.cli.Wish.TheVariants as wish
+use Rattle.hyperball.specs.declared.cli.WordsError.{WordsError}
 
 -- what asks for a replay, where it asks
 pub is_replay : (r : Result Wish WordsError) (w : ReplayWords) → r ≡ Ok (wish.Replay w) → IfOk r (λ found. found ≡ wish.Replay w)

@@ -7,7 +7,7 @@ use Rattle.clap.specs.declared.builder.command.Command.{Command}
 use Rattle.clap.specs.declared.builder.command.Command.TheViews.{out-Command as fields_of}
 use Rattle.clap.specs.declared.builder.value_parser.ValueParser.{ValueParser}
 use Rattle.clap.specs.declared.builder.value_parser.ValueParser.TheVariants as vp
-use Rattle.hyperball.specs.declared.arguments.Argument.{Argument}
+use Rattle.hyperball.specs.declared.cli.arguments.Argument.{Argument}
 
 -- what stands between the two fields of a line, by name
 abbrev pub delimiter_names : List Text

@@ -1,29 +1,29 @@
 -- Why a command ends with status 1: each fault that it may be told as, and what is so then.
-use Rattle.std.specs.Prelude.{◌≡◌, ◌≢◌, ⊤, ◌⊎◌, ℕ, true, false, List, Option, Result, Ok, Err}
+use Rattle.std.specs.Prelude.{◌≡◌, ◌≢◌, ℕ, true, false, List, Option, Result, Ok, Err}
 use Rattle.std.specs.Io.KnownBytes.{Keeps}
 use Rattle.clap.specs.Words.{Text}
-use Rattle.ball_model.specs.Streams.{Rises}
+use Rattle.ball_model.specs.Streams.{RisesByOne}
 use Rattle.hyperball.specs.Options.{options_of}
 use Rattle.hyperball.specs.Refusals.{IsFault, ReadsEdges, ReadsListed}
 use Rattle.hyperball.specs.Replaying.{FailsReplay, Leaves, RefusesLack, RefusesLong}
 use Rattle.hyperball.specs.Streams.{KeptOrFailed}
 use Rattle.hyperball.specs.Whole.{ReadsWhole}
 use Rattle.hyperball.specs.Words.{SaysOrders}
-use Rattle.hyperball.specs.declared.node_words.GatherWords.{GatherWords}
-use Rattle.hyperball.specs.declared.node_words.NodeWords.{NodeWords}
-use Rattle.hyperball.specs.declared.nodes.GatherFault.{GatherFault}
-use Rattle.hyperball.specs.declared.nodes.GatherFault.TheVariants as ungathered
-use Rattle.hyperball.specs.declared.nodes.NodeFault.{NodeFault}
-use Rattle.hyperball.specs.declared.nodes.NodeFault.TheVariants as unserved
-use Rattle.hyperball.specs.declared.replay_words.ReplayWords.{ReplayWords}
-use Rattle.hyperball.specs.declared.replaying.ReplayFault.{ReplayFault}
-use Rattle.hyperball.specs.declared.replaying.ReplayFault.TheVariants as unanswered
-use Rattle.hyperball.specs.declared.serve.RunFault.{RunFault}
-use Rattle.hyperball.specs.declared.serve.RunFault.TheVariants as unrun
-use Rattle.hyperball.specs.declared.words.RunWords.{RunWords}
-use Rattle.hyperball.specs.declared.words.Said.{Said}
-use Rattle.hyperball.specs.declared.words.Wish.TheVariants as wish
-use Rattle.node.specs.Job.{job_settings_of}
+use Rattle.hyperball.specs.declared.cli.gather.GatherWords.{GatherWords}
+use Rattle.hyperball.specs.declared.cli.one_node.NodeWords.{NodeWords}
+use Rattle.hyperball.specs.declared.cli.gather.GatherFault.{GatherFault}
+use Rattle.hyperball.specs.declared.cli.gather.GatherFault.TheVariants as ungathered
+use Rattle.hyperball.specs.declared.cli.one_node.NodeFault.{NodeFault}
+use Rattle.hyperball.specs.declared.cli.one_node.NodeFault.TheVariants as unserved
+use Rattle.hyperball.specs.declared.cli.replay.ReplayWords.{ReplayWords}
+use Rattle.hyperball.specs.declared.cli.replay.ReplayFault.{ReplayFault}
+use Rattle.hyperball.specs.declared.cli.replay.ReplayFault.TheVariants as unanswered
+use Rattle.hyperball.specs.declared.cli.run.RunFault.{RunFault}
+use Rattle.hyperball.specs.declared.cli.run.RunFault.TheVariants as unrun
+use Rattle.hyperball.specs.declared.cli.run.RunWords.{RunWords}
+use Rattle.hyperball.specs.declared.cli.run.Said.{Said}
+use Rattle.hyperball.specs.declared.cli.Wish.TheVariants as wish
+use Rattle.edgelist.specs.Job.{settings_of}
 use Rattle.node.specs.NoJob.{HasNoNode}
 use Rattle.node.specs.NoReport.{HasNoReport, IsUnwritten, WritesFrontOfJob}
 use Rattle.node.specs.Serving.{IsOfMachine, StopsNode, WantsNode}
@@ -84,20 +84,20 @@ pub record FailsNode {R W : Type 0} (w : NodeWords) (bytes : R → Option (List 
     (contents : W → Option (List ℕ)) (failed : W → ℕ) (r r' : R) (x x' : W) : Type 0 where
   pub fault : NodeFault
   pub jobless : (e : JobInputError) → fault ≡ unserved.Node (node.Job e) →
-      HasNoNode (job_settings_of w.options) w.options.counted w.part (bytes r) (bytes r') e
+      HasNoNode (settings_of w.job.options) w.job.counted w.part (bytes r) (bytes r') e
       × Keeps (contents x) (contents x')
   pub stopped : (e : ServeError) → fault ≡ unserved.Node (node.Serve e) → (IsOfMachine e → ⊥) →
-      StopsNode (job_settings_of w.options) w.options.counted w.part e (bytes r) (bytes r')
+      StopsNode (settings_of w.job.options) w.job.counted w.part e (bytes r) (bytes r')
       (contents x) (contents x')
   pub wanting : fault ≡ unserved.Node (node.Serve answer.Memory) →
-      WantsNode (job_settings_of w.options) w.options.counted w.part (bytes r) (bytes r')
+      WantsNode (settings_of w.job.options) w.job.counted w.part (bytes r) (bytes r')
   pub random : fault ≡ unserved.Random →
       Keeps (bytes r) (bytes r') × Keeps (contents x) (contents x')
-  pub read : fault ≡ unserved.Node (node.Serve answer.Read) → Rises (unread r) (unread r')
-  pub read_job : fault ≡ unserved.Node (node.Job job.Read) → Rises (unread r) (unread r')
+  pub read : fault ≡ unserved.Node (node.Serve answer.Read) → RisesByOne (unread r) (unread r')
+  pub read_job : fault ≡ unserved.Node (node.Job job.Read) → RisesByOne (unread r) (unread r')
   pub counted : fault ≢ unserved.Node (node.Serve answer.Read) →
       fault ≢ unserved.Node (node.Job job.Read) → unread r' ≡ unread r
-  pub write : fault ≡ unserved.Node (node.Serve answer.Write) → Rises (failed x) (failed x')
+  pub write : fault ≡ unserved.Node (node.Serve answer.Write) → RisesByOne (failed x) (failed x')
   pub written : fault ≢ unserved.Node (node.Serve answer.Write) → failed x' ≡ failed x
 
 -- ---- a gathering
@@ -111,16 +111,16 @@ pub record FailsGathering {R W : Type 0} (w : GatherWords) (bytes : R → Option
     Type 0 where
   pub fault : GatherFault
   pub refused : (e : GatherError) → fault ≡ ungathered.Gather e →
-      HasNoReport (job_settings_of w.options) w.options.counted (bytes r) (bytes r') e
+      HasNoReport (settings_of w.job.options) w.job.counted (bytes r) (bytes r') e
   pub kept : (e : GatherError) → fault ≡ ungathered.Gather e → IsUnwritten e →
       Keeps (contents x) (contents x')
-  pub front : WritesFrontOfJob (job_settings_of w.options) w.options.counted (bytes r) (bytes r')
+  pub front : WritesFrontOfJob (settings_of w.job.options) w.job.counted (bytes r) (bytes r')
       (contents x) (contents x')
   pub random : fault ≡ ungathered.Random →
       Keeps (bytes r) (bytes r') × Keeps (contents x) (contents x')
-  pub read : fault ≡ ungathered.Gather gather.Read → Rises (unread r) (unread r')
-  pub read_job : fault ≡ ungathered.Gather (gather.Job job.Read) → Rises (unread r) (unread r')
+  pub read : fault ≡ ungathered.Gather gather.Read → RisesByOne (unread r) (unread r')
+  pub read_job : fault ≡ ungathered.Gather (gather.Job job.Read) → RisesByOne (unread r) (unread r')
   pub counted : fault ≢ ungathered.Gather gather.Read →
       fault ≢ ungathered.Gather (gather.Job job.Read) → unread r' ≡ unread r
-  pub write : fault ≡ ungathered.Gather gather.Write → Rises (failed x) (failed x')
+  pub write : fault ≡ ungathered.Gather gather.Write → RisesByOne (failed x) (failed x')
   pub written : fault ≢ ungathered.Gather gather.Write → failed x' ≡ failed x

@@ -5,11 +5,11 @@ use Rattle.ball_model.specs.declared.names.NodeId.{NodeId}
 use Rattle.ball_model.specs.declared.plan.Estimate.TheVariants.{Corrected, Raw}
 use Rattle.edgelist.specs.declared.read.Delimiter.TheVariants.{Comma, Space, Tab}
 use Rattle.world.specs.declared.replay.ReplayOptions.{ReplayOptions}
-use Rattle.node.specs.declared.job.JobOptions.{JobOptions}
-use Rattle.hyperball.specs.declared.node_words.GatherWords.{GatherWords}
-use Rattle.hyperball.specs.declared.node_words.NodeWords.{NodeWords}
-use Rattle.hyperball.specs.declared.replay_words.ReplayWords.{ReplayWords}
-use Rattle.hyperball.specs.declared.words.RunWords.{RunWords}
+use Rattle.node.specs.declared.job.JobInput.{JobInput}
+use Rattle.hyperball.specs.declared.cli.gather.GatherWords.{GatherWords}
+use Rattle.hyperball.specs.declared.cli.one_node.NodeWords.{NodeWords}
+use Rattle.hyperball.specs.declared.cli.replay.ReplayWords.{ReplayWords}
+use Rattle.hyperball.specs.declared.cli.run.RunWords.{RunWords}
 use Rattle.hyperball.specs.Words.{usual_options}
 
 abbrev pub log2m_words : RunWords
@@ -79,38 +79,52 @@ one_order = (record { part = 0; replica = 1 }, 2) ∷ []
 abbrev pub two_orders : List (NodeId × ℕ)
 two_orders = (record { part = 0; replica = 1 }, 2) ∷ (record { part = 1; replica = 0 }, 3) ∷ []
 
--- the options of a job where none is given
-abbrev pub usual_job : JobOptions
+-- what is asked of a job where no option is given
+abbrev pub usual_job : JobInput
 usual_job = record {
-  log2m = 8;
-  seed = 0;
-  parts = 1;
-  limit = greatest_limit;
-  estimate = Raw;
-  delimiter = Tab;
-  large = false;
+  options = record {
+    log2m = 8;
+    seed = 0;
+    parts = 1;
+    limit = greatest_limit;
+    estimate = Raw;
+    delimiter = Tab;
+    large = false;
+    threads = 0;
+  };
   counted = false;
 }
 
 abbrev pub usual_node : NodeWords
-usual_node = record { options = usual_job; part = 0; progress = false }
+usual_node = record { job = usual_job; part = 0; progress = false }
 
 abbrev pub third_node : NodeWords
 third_node = record {
-  options = record usual_job { log2m = 4; parts = 3; large = true; counted = true };
+  job = record {
+    options = record usual_job.options { log2m = 4; parts = 3; large = true };
+    counted = true;
+  };
   part = 2;
   progress = false;
 }
 
 abbrev pub telling_node : NodeWords
-telling_node = record { options = usual_job; part = 0; progress = true }
+telling_node = record { job = usual_job; part = 0; progress = true }
 
 abbrev pub gathered_job : GatherWords
 gathered_job = record {
-  options = record usual_job { parts = 3; estimate = Corrected; delimiter = Comma; large = true };
-  threads = 2;
+  job = record {
+    options = record usual_job.options {
+      parts = 3;
+      estimate = Corrected;
+      delimiter = Comma;
+      large = true;
+      threads = 2;
+    };
+    counted = false;
+  };
   progress = false;
 }
 
 abbrev pub telling_gathering : GatherWords
-telling_gathering = record { options = usual_job; threads = 0; progress = true }
+telling_gathering = record { job = usual_job; progress = true }

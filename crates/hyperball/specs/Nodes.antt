@@ -1,36 +1,38 @@
 -- What the words of a node and of a gathering say.
 use Rattle.std.specs.Prelude.{◌≡◌, List, [], Option, Some, option_map, codes}
 use Rattle.clap.specs.Words.{Row, Text, subcommand_of}
-use Rattle.node.specs.declared.job.JobOptions.{JobOptions}
+use Rattle.node.specs.declared.job.JobInput.{JobInput}
 use Rattle.hyperball.specs.CommandLine.{Parsers, TakeNames, hyperball_app}
 use Rattle.hyperball.specs.Words.{HasFaults, IsFlag, IsNamedOr, IsNumberOr}
 use Rattle.hyperball.specs.Words.{delimiter_name, estimate_name, usual_options}
-use Rattle.hyperball.specs.declared.node_words.GatherWords.{GatherWords}
-use Rattle.hyperball.specs.declared.node_words.NodeWords.{NodeWords}
+use Rattle.hyperball.specs.declared.cli.gather.GatherWords.{GatherWords}
+use Rattle.hyperball.specs.declared.cli.one_node.NodeWords.{NodeWords}
 
--- the options of a job have these values, but for the flag of large edge lists
-pub record AreJobOptionsOf (rows : List Row) (o : JobOptions) : Type 0 where
-  pub log2m : IsNumberOr usual_options.log2m 8 rows (codes "log2m") o.log2m
-  pub seed : IsNumberOr usual_options.seed 64 rows (codes "seed") o.seed
-  pub parts : IsNumberOr usual_options.parts 16 rows (codes "parts") o.parts
-  pub limit : IsNumberOr usual_options.limit 32 rows (codes "limit") o.limit
-  pub estimate : IsNamedOr usual_options.estimate estimate_name rows (codes "estimate") o.estimate
+-- the options of a job have these values, but for the flag of large edge lists and the number of threads
+pub record AreJobOptionsOf (rows : List Row) (job : JobInput) : Type 0 where
+  pub log2m : IsNumberOr usual_options.log2m 8 rows (codes "log2m") job.options.log2m
+  pub seed : IsNumberOr usual_options.seed 64 rows (codes "seed") job.options.seed
+  pub parts : IsNumberOr usual_options.parts 16 rows (codes "parts") job.options.parts
+  pub limit : IsNumberOr usual_options.limit 32 rows (codes "limit") job.options.limit
+  pub estimate : IsNamedOr usual_options.estimate estimate_name
+      rows (codes "estimate") job.options.estimate
   pub delimiter : IsNamedOr usual_options.delimiter delimiter_name
-      rows (codes "delimiter") o.delimiter
-  pub counted : IsFlag rows (codes "counted") o.counted
+      rows (codes "delimiter") job.options.delimiter
+  pub counted : IsFlag rows (codes "counted") job.counted
 
--- and the flag, the partition of a node, and whether it tells its progress
+-- and the flag, the partition of a node, which has no number of threads, and whether it tells its progress
 pub record AreNodeOptionsOf (rows : List Row) (w : NodeWords) : Type 0 where
-  pub options : AreJobOptionsOf rows w.options
-  pub large : IsFlag rows (codes "large") w.options.large
+  pub job : AreJobOptionsOf rows w.job
+  pub large : IsFlag rows (codes "large") w.job.options.large
+  pub threads : w.job.options.threads ≡ 0
   pub part : IsNumberOr 0 16 rows (codes "part") w.part
   pub progress : IsFlag rows (codes "progress") w.progress
 
 -- and the flag, how many threads a gathering has, and whether it tells its progress
 pub record AreGatherOptionsOf (rows : List Row) (w : GatherWords) : Type 0 where
-  pub options : AreJobOptionsOf rows w.options
-  pub large : IsFlag rows (codes "large") w.options.large
-  pub threads : IsNumberOr usual_options.threads 16 rows (codes "threads") w.threads
+  pub job : AreJobOptionsOf rows w.job
+  pub large : IsFlag rows (codes "large") w.job.options.large
+  pub threads : IsNumberOr usual_options.threads 16 rows (codes "threads") w.job.options.threads
   pub progress : IsFlag rows (codes "progress") w.progress
 
 -- the subcommand is node or gather, with these options or their defaults

@@ -22,6 +22,7 @@ news_text (told.NoParts parts) =
 news_text (told.NoLimit limit) =
     codes "no plan has limit " ++ decimal limit ++ codes
     " (1 to 4096 are allowed): the job will be refused once the edge list is read"
+news_text (told.Reading records) = decimal records ++ codes " records are read so far"
 news_text (told.Read records vertices) =
     decimal records ++ codes " records and " ++ decimal vertices ++ codes " vertices are read"
 news_text told.Start = codes "the supersteps begin"

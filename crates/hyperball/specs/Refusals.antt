@@ -7,11 +7,12 @@ use Rattle.ball_model.specs.Streams.{Rises}
 use Rattle.edgelist.specs.Reading.{CountsOne}
 use Rattle.edgelist.specs.declared.read.EdgeError.TheVariants as edge_fault
 use Rattle.hyperball.specs.Whole.{ReadsWhole, sections_in}
-use Rattle.hyperball.specs.declared.serve.RunFault.{RunFault}
-use Rattle.hyperball.specs.declared.serve.RunFault.TheVariants as fault
+use Rattle.hyperball.specs.declared.cli.run.RunFault.{RunFault}
+use Rattle.hyperball.specs.declared.cli.run.RunFault.TheVariants as fault
 use Rattle.hyperball.specs.declared.whole.WholeError.{WholeError}
 use Rattle.node.specs.declared.limits.TheConstants.{MOST_BYTES}
-use Rattle.workers.specs.Options.{run_settings_of}
+use Rattle.edgelist.specs.Job.{settings_of}
+use Rattle.workers.specs.Options.{run_job}
 use Rattle.workers.specs.Run.{IsFaultIn, IsRunRefusal, RefusesEdges}
 use Rattle.workers.specs.declared.bytes.RunError.{RunError}
 use Rattle.workers.specs.declared.bytes.RunError.TheVariants as run_fault
@@ -34,7 +35,7 @@ IsFault o counted told fault.Random = ⊤
 IsFault o counted told (fault.Input e) = ⊤
 IsFault o counted told fault.NoList = IfSome told (λ input. sections_in counted input ≡ None)
 IsFault o counted told (fault.Run e) =
-    IsFaultIn o e × IfSome told (λ input. RefusesInput (run_settings_of o) counted input e)
+    IsFaultIn o e × IfSome told (λ input. RefusesInput (settings_of (run_job o)) counted input e)
 
 -- the input was not read whole, or not at all
 abbrev pub IsUnreadRun : RunFault → Type 0

@@ -5,19 +5,19 @@ use Rattle.std.specs.Io.KnownBytes.{Keeps}
 use Rattle.clap.specs.Words.{Row, Text, subcommand_of}
 use Rattle.ball_model.specs.RunText.{ArePlain}
 use Rattle.ball_model.specs.Sections.{sections_of}
-use Rattle.ball_model.specs.Streams.{Rises}
+use Rattle.ball_model.specs.Streams.{RisesByOne}
 use Rattle.ball_model.specs.WorldText.{AppendsReplay, HasCommands}
 use Rattle.hyperball.specs.CommandLine.{Parsers, TakeNames, hyperball_app}
 use Rattle.hyperball.specs.Streams.{KeptOrFailed}
 use Rattle.node.specs.declared.limits.TheConstants.{MOST_BYTES}
 use Rattle.hyperball.specs.Words.{HasFaults, IsFlag, IsNamedOr, IsNumberOr}
 use Rattle.hyperball.specs.Words.{delimiter_name, estimate_name, usual_options}
-use Rattle.hyperball.specs.declared.replay_words.ReplayWords.{ReplayWords}
-use Rattle.hyperball.specs.declared.replaying.ReplayFault.{ReplayFault}
-use Rattle.hyperball.specs.declared.replaying.ReplayFault.TheVariants as fault
-use Rattle.hyperball.specs.declared.words.RunWords.{RunWords}
-use Rattle.hyperball.specs.declared.words.Wish.{Wish}
-use Rattle.hyperball.specs.declared.words.Wish.TheVariants as wish
+use Rattle.hyperball.specs.declared.cli.replay.ReplayWords.{ReplayWords}
+use Rattle.hyperball.specs.declared.cli.replay.ReplayFault.{ReplayFault}
+use Rattle.hyperball.specs.declared.cli.replay.ReplayFault.TheVariants as fault
+use Rattle.hyperball.specs.declared.cli.run.RunWords.{RunWords}
+use Rattle.hyperball.specs.declared.cli.Wish.{Wish}
+use Rattle.hyperball.specs.declared.cli.Wish.TheVariants as wish
 use Rattle.world.specs.Replay.{AppendsSomeReplay, BeginsReplay, BeginsSomeReplay, FailsOfReplay}
 use Rattle.world.specs.Replay.{replay_of}
 use Rattle.world.specs.declared.replay.ReplayError.{ReplayError}
@@ -144,7 +144,7 @@ Leaves old new a b fault.NoList = Keeps old new
 Leaves old new a b fault.NoScript = Keeps old new
 Leaves old new a b (fault.Replay e) =
     (e ≢ unanswered.Memory → e ≢ unanswered.Write → Keeps old new)
-    × (e ≡ unanswered.Write → Rises a b)
+    × (e ≡ unanswered.Write → RisesByOne a b)
 
 -- the input was not read whole, or there were no random words
 abbrev pub IsUnread : ReplayFault → Type 0

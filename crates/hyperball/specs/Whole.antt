@@ -2,7 +2,7 @@
 use Rattle.std.specs.Prelude.{◌≡◌, ℕ, ◌+◌, ◌<◌, Bool, true, false, List, length}
 use Rattle.std.specs.Prelude.{Option, None, Some, IfSome, option_map}
 use Rattle.ball_model.specs.Sections.{sections_of}
-use Rattle.ball_model.specs.Streams.{Rises, TakesAtMost}
+use Rattle.ball_model.specs.Streams.{Rises, RisesByOne, TakesAtMost}
 use Rattle.hyperball.specs.declared.whole.WholeError.{WholeError}
 use Rattle.hyperball.specs.declared.whole.WholeError.TheVariants as fault
 use Rattle.node.specs.declared.limits.TheConstants.{MOST_BYTES}
@@ -25,7 +25,7 @@ pub record ReadsWhole {R : Type 0} (bytes : R → Option (List ℕ)) (count : R 
     (good : R → Option ℕ) (old new : R) (told : WholeError → Type 0) : Type 0 where
   pub size : told fault.Size → IsLong (bytes old)
   pub memory : told fault.Memory → TakesAtMost MOST_BYTES (bytes old) (bytes new)
-  pub read : told fault.Read → Rises (count old) (count new)
+  pub read : told fault.Read → RisesByOne (count old) (count new)
   pub failed : Rises (count old) (count new) → told fault.Read
   pub sure : good old ≡ None → told fault.Read → ⊥
   pub few : ReadsFew (bytes old) (bytes new)

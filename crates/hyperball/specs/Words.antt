@@ -19,11 +19,11 @@ use Rattle.edgelist.specs.declared.read.Delimiter.TheVariants.{Tab, Comma, Space
 use Rattle.ball_model.specs.declared.names.NodeId.{NodeId}
 use Rattle.hyperball.specs.declared.options.Options.{Options}
 use Rattle.hyperball.specs.declared.options.Orders.{Orders}
-use Rattle.hyperball.specs.declared.words.RunWords.{RunWords}
-use Rattle.hyperball.specs.declared.words.Wish.{Wish}
-use Rattle.hyperball.specs.declared.words.Wish.TheVariants as wish
-use Rattle.hyperball.specs.declared.words.WordsError.{WordsError}
-use Rattle.hyperball.specs.declared.words.WordsError.TheVariants as words
+use Rattle.hyperball.specs.declared.cli.run.RunWords.{RunWords}
+use Rattle.hyperball.specs.declared.cli.Wish.{Wish}
+use Rattle.hyperball.specs.declared.cli.Wish.TheVariants as wish
+use Rattle.hyperball.specs.declared.cli.WordsError.{WordsError}
+use Rattle.hyperball.specs.declared.cli.WordsError.TheVariants as words
 use Rattle.hyperball.specs.CommandLine.{Parsers, TakeNames, hyperball_app}
 use Rattle.hyperball.specs.Options.{settings_in}
 use Rattle.hyperball.specs.Orders.{AreOrders}

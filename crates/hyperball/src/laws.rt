@@ -20,11 +20,11 @@ ghost use Rattle.hyperball.specs.Nodes.{AsksGather, AsksNode, IsGather, IsNode};
 ghost use Rattle.hyperball.specs.Progress.{IsLineBehind, line_of, mark_of_program};
 ghost use Rattle.hyperball.specs.Replaying.{AsksReplay, IsReplay};
 ghost use Rattle.hyperball.specs.Words.{AsksProgress, HasFaults, IsRun};
-ghost use Rattle.hyperball.specs.declared.node_words.GatherWords.{GatherWords as Gathered};
-ghost use Rattle.hyperball.specs.declared.node_words.NodeWords.{NodeWords as Noded};
-ghost use Rattle.hyperball.specs.declared.replay_words.ReplayWords.{ReplayWords as Replayed};
+ghost use Rattle.hyperball.specs.declared.cli.gather.GatherWords.{GatherWords as Gathered};
+ghost use Rattle.hyperball.specs.declared.cli.one_node.NodeWords.{NodeWords as Noded};
+ghost use Rattle.hyperball.specs.declared.cli.replay.ReplayWords.{ReplayWords as Replayed};
 ghost use Rattle.hyperball.specs.declared.told.Told.{Told as News};
-ghost use Rattle.hyperball.specs.declared.words.RunWords.{RunWords as Run};
+ghost use Rattle.hyperball.specs.declared.cli.run.RunWords.{RunWords as Run};
 
 /// These words are read as those of run; an option that is not given has its default.
 pub fn words_of_a_run()

@@ -1,12 +1,12 @@
 //! HyperBall centralities of a directed graph, from the command line.
 //!
 //! `hyperball run` reads an edge list on standard input and writes its report on standard output; `hyperball replay`
-//! plays a script over one ([`replaying`]); `hyperball node` is one partition's node that answers commands, and
-//! `hyperball gather` writes the report of the checkpoints of all partitions ([`nodes`]). This file hands the real
-//! streams to [`serve::serve`], which goes from words and bytes to bytes and a status. [`words::read_words`] gives what
-//! the words ask for, a [`words::Wish`]: of a run the [`options::Options`] and the lists of orders
-//! ([`orders::orders_in`]). With `--counted` a run reads its input whole ([`whole::read_whole`]) and cuts it in two
-//! ([`whole::sections`]). The run itself is [`workers::run`]. How a command gets on is told in lines of progress
+//! plays a script over one; `hyperball node` is one partition's node that answers commands, and `hyperball gather` writes
+//! the report of the checkpoints of all partitions. Each has a file in [`cli`], with its words and what it does. This
+//! file hands the real streams to [`serve::serve`], which goes from words and bytes to bytes and a status.
+//! [`cli::read_words`] gives what the words ask for, a [`cli::Wish`]: of a run the [`options::Options`] and the lists of
+//! orders ([`cli::orders`]). With `--counted` a run reads its input whole ([`whole::read_whole`]) and cuts it in two
+//! ([`whole::sections`]). The run itself is [`workers::run_watched`]. How a command gets on is told in lines of progress
 //! ([`told::Told`]), where that is asked for ([`progress`]).
 //!
 //! ```text
@@ -23,22 +23,15 @@
 //! ```
 #![tactic(auto)]
 
-pub mod arguments;
-pub mod job_words;
+pub mod cli;
 pub mod laws;
-pub mod node_words;
-pub mod nodes;
 pub mod options;
-pub mod orders;
 pub mod progress;
-pub mod replay_words;
-pub mod replaying;
 pub mod serve;
 #[cfg(test)]
 mod tests;
 pub mod told;
 pub mod whole;
-pub mod words;
 
 use ball_model::{CountingReader, CountingWriter};
 use std::io::{BufReader, ErrorKind, IsTerminal, Write};
@@ -62,7 +55,7 @@ fn tell_no_words(rt: &HostRuntime, error: io::Error) -> u8 {
 
 // One who is to type the input is told so. Words that ask for help, or are refused, read none.
 fn tell_terminal(rt: &HostRuntime, words: &[String]) {
-    if rt.stdin().is_terminal() && words::read_words(rt.alloc(), words).is_ok() {
+    if rt.stdin().is_terminal() && cli::read_words(rt.alloc(), words).is_ok() {
         let told =
             "hyperball: reads its input from the terminal; Ctrl-D on a line of its own ends it";
         let _ = writeln!(rt.stderr(), "{told}");

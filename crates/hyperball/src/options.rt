@@ -2,7 +2,8 @@
 
 ghost use Rattle.std.specs.Prelude.{◌≡◌};
 ghost use Rattle.hyperball.specs.Options.{options_of, settings_in};
-ghost use Rattle.workers.specs.Options.{run_settings_of};
+ghost use Rattle.edgelist.specs.Job.{settings_of};
+ghost use Rattle.workers.specs.Options.{run_job};
 
 use ball_model::plan::GREATEST_LIMIT;
 use ball_model::{Estimate, NodeId};
@@ -67,7 +68,7 @@ pub struct Orders {
 /// The options of a run with these orders.
 pub fn run_options(options: &Options, orders: Orders) -> RunOptions
     ensures value { result ≡ options_of options.now orders }
-    ensures settings { run_settings_of result ≡ settings_in options.now }
+    ensures settings { settings_of (run_job result) ≡ settings_in options.now }
 {
     RunOptions {
         log2m: options.log2m,

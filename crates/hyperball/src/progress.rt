@@ -11,13 +11,12 @@ ghost use Rattle.hyperball.specs.Progress.{Foretells, IsRefusedForVertices, Tell
 use crate::told::Told;
 use ball_model::plan::GREATEST_LIMIT;
 use ball_model::{NodeId, Plan, PlanError};
-use node::job::JobOptions;
+use edgelist::{JobOptions, Watch};
 use std::alloc::{AllocError, Global};
 use std::io::{Eprint, Stderr, Write};
 use std::sync::atomic::{AtomicU32, AtomicU64, Ordering};
-use std::time::Clock;
+use std::time::{Clock, Instant};
 use workers::{Gate, RunOptions, SleepingGate};
-use world::watch::Watch;
 
 /// What tells lines of progress.
 pub trait Teller {
@@ -134,6 +133,11 @@ impl<'a, T: Teller> RunProgress<'a, T> {
         }
     }
 
+    // So many records are read so far.
+    fn tell_reading(&self, records: u64) {
+        self.teller.tell(Told::Reading { records });
+    }
+
     // The edge list is read.
     fn note_edge_list(&self, records: u64, vertices: u32) {
         self.vertices.store(vertices, Ordering::SeqCst);
@@ -199,10 +203,51 @@ fn no_supersteps(alloc: Global) -> Result<Vec<Superstep>, AllocError> {
     Ok(supersteps)
 }
 
+/// How many milliseconds pass before a next line tells how far reading is.
+const PAUSE: u64 = 1000;
+
+// How long nothing is told of reading: from its begin to a first line, and from each line to the next.
+#[derive(Drop)]
+struct ReadingPause<'a, C> {
+    clock: &'a C,
+    // none if the clock cannot be read: nothing is told then
+    begin: Option<Instant>,
+    // when a line was told last, in milliseconds from the begin
+    told: AtomicU64,
+}
+
+impl<'a, C: Clock> ReadingPause<'a, C> {
+    // A pause that begins now.
+    fn new(clock: &'a C) -> ReadingPause<'a, C> {
+        ReadingPause {
+            clock,
+            begin: Instant::now(clock).ok(),
+            told: AtomicU64::new(0),
+        }
+    }
+
+    // Whether it is over; if so, the next one begins.
+    fn is_over(&self) -> bool {
+        let Some(begin) = self.begin else {
+            return false;
+        };
+        let Ok(passed) = begin.elapsed(self.clock) else {
+            return false;
+        };
+        let now = u64::try_from(passed.as_millis()).unwrap_or(u64::MAX);
+        if now.saturating_sub(self.told.load(Ordering::SeqCst)) < PAUSE {
+            return false;
+        }
+        self.told.store(now, Ordering::SeqCst);
+        true
+    }
+}
+
 /// A gate whose idle turns sleep, and which tells how the run gets on where there is a teller.
 #[derive(Drop)]
 pub struct TellingGate<'a, C, T> {
     sleeping: SleepingGate<'a, C>,
+    pause: ReadingPause<'a, C>,
     progress: Option<RunProgress<'a, T>>,
 }
 
@@ -220,6 +265,7 @@ impl<'a, C: Clock, T: Teller> TellingGate<'a, C, T> {
         };
         Ok(TellingGate {
             sleeping: SleepingGate::new(alloc, clock)?,
+            pause: ReadingPause::new(clock),
             progress,
         })
     }
@@ -254,6 +300,17 @@ impl<'a, C: Clock, T: Teller> Gate for TellingGate<'a, C, T> {
         self.sleeping.idle(node);
     }
 
+}
+
+impl<'a, C: Clock, T: Teller> Watch for TellingGate<'a, C, T> {
+    fn while_read(&self, records: u64) {
+        if let Some(progress) = &self.progress
+            && self.pause.is_over()
+        {
+            progress.tell_reading(records);
+        }
+    }
+
     fn after_read(&self, records: u64, vertices: u32) {
         if let Some(progress) = &self.progress {
             progress.note_edge_list(records, vertices);
@@ -266,7 +323,7 @@ impl<'a, C: Clock, T: Teller> Gate for TellingGate<'a, C, T> {
         }
     }
 
-    fn after_close(&self, node: NodeId, superstep: u32, changed: u32) {
+    fn after_close(&self, node: NodeId, superstep: u32, changed: u32, _vertices: u32) {
         if let Some(progress) = &self.progress {
             progress.come_to(node.part, superstep, changed);
         }

@@ -1,61 +1,48 @@
 //! From words and bytes to bytes and a status.
 
-ghost use Rattle.std.specs.Prelude.{◌≡◌, ◌≢◌, ◌≤◌, ◌⊎◌, ◌∷◌, [], List, false, true, Err, IfErr};
-ghost use Rattle.std.specs.Prelude.{IfSome, None, OnErr, OnOk, Option, Some, ℕ};
+ghost use Rattle.std.specs.Prelude.{◌≡◌, ◌≢◌, ◌≤◌, ◌⊎◌, ◌∷◌, [], List, false, true};
+ghost use Rattle.std.specs.Prelude.{IfSome, None, Option, ℕ};
 ghost use Rattle.std.specs.Io.KnownBytes.{Appends, Keeps};
 ghost use Rattle.clap.specs.Words.{kind_of};
 ghost use Rattle.clap.specs.declared.error.kind.ErrorKind.TheVariants as kind;
 ghost use Rattle.clap.specs.declared.error.kind.ErrorKind.{ErrorKind as Kind};
-ghost use Rattle.ball_model.specs.Sections.{sections_of};
 ghost use Rattle.hyperball.specs.Streams.{AppendsSome, KeptOrFailed};
-ghost use Rattle.edgelist.specs.declared.read.EdgeError.TheVariants as edge_fault;
 ghost use Rattle.hyperball.specs.Whole.{ReadsFew};
-ghost use Rattle.hyperball.specs.Options.{options_of, settings_in};
 ghost use Rattle.hyperball.specs.Progress.{Awaits, TellsAsAsked, TellsProgress};
 ghost use Rattle.hyperball.specs.Faults.{BeginsNothing, FailsGathering, FailsNode, FailsReplaying};
 ghost use Rattle.hyperball.specs.Faults.{FailsRun, FailsRunOf};
-ghost use Rattle.hyperball.specs.Refusals.{IsFault, ReadsEdges, ReadsListed};
 ghost use Rattle.hyperball.specs.Replaying.{BeginsSome, BeginsToServe, IsReplay, SaysRun};
 ghost use Rattle.hyperball.specs.Replaying.{ServesReplay};
-ghost use Rattle.hyperball.specs.declared.replay_words.ReplayWords.{ReplayWords as Replayed};
+ghost use Rattle.hyperball.specs.declared.cli.replay.ReplayWords.{ReplayWords as Replayed};
 ghost use Rattle.hyperball.specs.Words.{AreMistakes, AsksProgress, FailsFor, HasFaults, HasNoLists};
-ghost use Rattle.hyperball.specs.Words.{HasOrders, IsMistake, IsRun, Reports, SaysProgress, Serves};
-ghost use Rattle.hyperball.specs.Words.{listed_words, texts_of};
+ghost use Rattle.hyperball.specs.Words.{HasOrders, IsMistake, IsRun, SaysProgress, Serves};
+ghost use Rattle.hyperball.specs.Words.{texts_of};
 ghost use Rattle.hyperball.specs.Nodes.{AsksGather, AsksNode, IsGather, IsNode};
-ghost use Rattle.hyperball.specs.declared.node_words.GatherWords.{GatherWords as Gathered};
-ghost use Rattle.hyperball.specs.declared.node_words.NodeWords.{NodeWords as Noded};
+ghost use Rattle.hyperball.specs.declared.cli.gather.GatherWords.{GatherWords as Gathered};
+ghost use Rattle.hyperball.specs.declared.cli.one_node.NodeWords.{NodeWords as Noded};
 ghost use Rattle.node.specs.Gathering.{GathersJob};
-ghost use Rattle.node.specs.Job.{job_settings_of};
+ghost use Rattle.edgelist.specs.Job.{settings_of};
 ghost use Rattle.node.specs.NoReport.{GathersFrontOfJob, WritesFrontOfJob};
 ghost use Rattle.node.specs.Serving.{ServesNode};
-ghost use Rattle.hyperball.specs.declared.options.Options.{Options as Asked};
-ghost use Rattle.workers.specs.Options.{run_settings_of};
-ghost use Rattle.hyperball.specs.declared.whole.WholeError.{WholeError as NoInput};
-ghost use Rattle.hyperball.specs.declared.words.RunWords.{RunWords as Run};
-ghost use Rattle.hyperball.specs.declared.words.Said.{Said as Asking};
+ghost use Rattle.hyperball.specs.declared.cli.run.RunWords.{RunWords as Run};
+ghost use Rattle.hyperball.specs.declared.cli.run.Said.{Said as Asking};
 
-use crate::node_words::{GatherWords, NodeWords};
-use crate::nodes::{gather_by, node_by};
-use crate::options::run_options;
-use crate::orders::OrdersError;
-use crate::progress::{LendTeller, Teller, TellingGate};
-use crate::replay_words::ReplayWords;
-use crate::replaying::replay_by;
-use crate::whole::{WholeError, read_whole, sections};
-use crate::words::{Said, Wish, WordsError, read_words};
+use crate::cli::gather::{GatherWords, gather_by};
+use crate::cli::one_node::{NodeWords, node_by};
+use crate::cli::orders::OrdersError;
+use crate::cli::replay::{ReplayWords, replay_by};
+use crate::cli::run::{Said, run_told};
+use crate::cli::{Wish, WordsError, read_words};
+use crate::progress::LendTeller;
 use ball_model::{CountedRead, CountedWrite, put_all};
 use clap::error::ErrorKind;
 use std::alloc::{AllocGlobal, Global};
 use std::fmt::Display;
-use std::hash::RandomState;
 use std::io::Write;
 use std::random::RandomSource;
 use std::sync::Wait;
 use std::thread::Threads;
 use std::time::Clock;
-use thiserror::Error;
-use workers::{Gate, RunError, RunOptions};
-use world::bytes::Bytes;
 
 /// The status of a run that wrote its report, or of help that was asked for.
 const DONE: u8 = 0;
@@ -65,46 +52,6 @@ const FAULT: u8 = 1;
 
 /// The status of words that are refused.
 const MISTAKE: u8 = 2;
-
-// Why words of a run give no report, in the order of the checks.
-#[derive(Clone, Copy, Debug, Error)]
-enum RunFault {
-    // There is no gate: memory was refused.
-    #[error("out of memory")]
-    Gate,
-    // There are no random words to hash labels by.
-    #[error("the system gives no random words")]
-    Random,
-    // The input is not read whole.
-    #[error(transparent)]
-    Input(WholeError),
-    // There is no list of counted vertices.
-    #[error("no line %% before the list")]
-    NoList,
-    // The run gives no report.
-    #[error(transparent)]
-    Run(RunError),
-}
-
-impl From<WholeError> for RunFault {
-    ghost use Rattle.hyperball.specs.declared.serve.RunFault.TheVariants.{Input};
-
-    ghost from_gives = { λ fault e. e ≡ Input fault };
-
-    fn from(fault: WholeError) -> RunFault {
-        RunFault::Input(fault)
-    }
-}
-
-impl From<RunError> for RunFault {
-    ghost use Rattle.hyperball.specs.declared.serve.RunFault.TheVariants.{Run as Fault};
-
-    ghost from_gives = { λ fault e. e ≡ Fault fault };
-
-    fn from(fault: RunError) -> RunFault {
-        RunFault::Run(fault)
-    }
-}
 
 /// Tells a fault in one line, which is dropped where it cannot be written, and gives the status of a fault.
 pub fn tell_fault<F: Write>(faults: &mut F, fault: impl Display + Drop) -> u8
@@ -218,134 +165,6 @@ fn tell_words<W: CountedWrite, F: Write>(
     }
 }
 
-// A run over a whole input, which has the list of counted vertices too, after a line of %%.
-fn run_sections<H: AllocGlobal + Threads + Wait + Sync, W: CountedWrite, G: Gate + Sync>(
-    rt: &H,
-    state: RandomState,
-    options: &RunOptions,
-    gate: &G,
-    input: &[u8],
-    writer: &mut W,
-) -> Result<(), RunFault>
-    ensures done { (o : Asked) → run_settings_of options.now ≡ settings_in o →
-        OnOk result (Reports (listed_words o) input.now
-        (W.contents writer.old) (W.contents writer.new)) }
-    ensures unlisted { sections_of input.now ≡ None → result ≡ Err RunFault.NoList }
-    ensures refused { IfErr result (IsFault options.now true (Some input.now)) }
-    ensures gate { result ≢ Err RunFault.Gate }
-    ensures random { result ≢ Err RunFault.Random }
-    ensures input { (f : NoInput) → result ≢ Err (RunFault.Input f) }
-    ensures edges { result ≢ Err (RunFault.Run (RunError.Edges edge_fault.Read)) }
-    ensures kept { OnErr result (
-        KeptOrFailed W.contents W.failed_calls writer.old writer.new) }
-{
-    let Some((edges, list)) = sections(input) else {
-        return Err(RunFault::NoList);
-    };
-    let mut edges = Bytes::new(edges);
-    workers::run(rt, state, &mut edges, Some(list), writer, options, gate)?;
-    Ok(())
-}
-
-// A run over an input that is read whole.
-fn run_listed<
-    H: AllocGlobal + Threads + Wait + Sync,
-    R: CountedRead,
-    W: CountedWrite,
-    G: Gate + Sync,
->(
-    rt: &H,
-    state: RandomState,
-    options: &RunOptions,
-    gate: &G,
-    reader: &mut R,
-    writer: &mut W,
-) -> Result<(), RunFault>
-    ensures done { (o : Asked) → run_settings_of options.now ≡ settings_in o →
-        OnOk result (Serves (listed_words o) (R.remaining reader.old)
-        W.contents writer.old writer.new) }
-    ensures refused { IfErr result (IsFault options.now true (R.remaining reader.old)) }
-    ensures gate { result ≢ Err RunFault.Gate }
-    ensures random { result ≢ Err RunFault.Random }
-    ensures listed { ReadsListed R.remaining R.failed_calls R.sure_calls
-        reader.old reader.new result }
-    ensures kept { OnErr result (
-        KeptOrFailed W.contents W.failed_calls writer.old writer.new) }
-{
-    let input = read_whole(rt.alloc(), reader)?;
-    run_sections(rt, state, options, gate, &input, writer)
-}
-
-// A run by these options, with or without a list of counted vertices.
-fn run_by<
-    H: AllocGlobal + RandomSource + Threads + Wait + Sync,
-    R: CountedRead,
-    W: CountedWrite,
-    G: Gate + Sync,
->(
-    rt: &H,
-    counted: bool,
-    options: &RunOptions,
-    gate: &G,
-    reader: &mut R,
-    writer: &mut W,
-) -> Result<(), RunFault>
-    ensures done { (w : Run) → run_settings_of options.now ≡ settings_in w.options →
-        counted ≡ w.counted →
-        OnOk result (Serves w (R.remaining reader.old) W.contents writer.old writer.new) }
-    ensures gate { result ≢ Err RunFault.Gate }
-    ensures random { result ≡ Err RunFault.Random →
-        Keeps (R.remaining reader.old) (R.remaining reader.new) }
-    ensures refused { IfErr result (IsFault options.now counted (R.remaining reader.old)) }
-    ensures listed { counted ≡ true → ReadsListed R.remaining R.failed_calls R.sure_calls
-        reader.old reader.new result }
-    ensures edges { counted ≡ false → ReadsEdges R.failed_calls reader.old reader.new result }
-    ensures kept { OnErr result (
-        KeptOrFailed W.contents W.failed_calls writer.old writer.new) }
-{
-    let Ok(state) = RandomState::new(rt) else {
-        return Err(RunFault::Random);
-    };
-    if counted {
-        return run_listed(rt, state, options, gate, reader, writer);
-    }
-    workers::run(rt, state, reader, None, writer, options, gate)?;
-    Ok(())
-}
-
-// A run of these words, which tells how it gets on where there is a teller.
-fn run_told<
-    H: AllocGlobal + Clock + RandomSource + Threads + Wait + Sync,
-    T: Teller + Sync,
-    R: CountedRead,
-    W: CountedWrite,
->(rt: &H, said: Said, teller: &Option<T>, reader: &mut R, writer: &mut W) -> Result<(), RunFault>
-    ensures done { OnOk result (
-        Serves said.words (R.remaining reader.old) W.contents writer.old writer.new) }
-    ensures gate { result ≡ Err RunFault.Gate →
-        Keeps (R.remaining reader.old) (R.remaining reader.new) }
-    ensures random { result ≡ Err RunFault.Random →
-        Keeps (R.remaining reader.old) (R.remaining reader.new) }
-    ensures refused { IfErr result (IsFault (options_of said.words.options said.orders)
-        said.words.counted (R.remaining reader.old)) }
-    ensures listed { said.words.counted ≡ true →
-        ReadsListed R.remaining R.failed_calls R.sure_calls reader.old reader.new result }
-    ensures edges { said.words.counted ≡ false →
-        ReadsEdges R.failed_calls reader.old reader.new result }
-    ensures kept { OnErr result (
-        KeptOrFailed W.contents W.failed_calls writer.old writer.new) }
-{
-    let Said { words, orders, .. } = said;
-    let options = run_options(&words.options, orders);
-    let Ok(gate) = TellingGate::new(rt.alloc(), rt, teller.as_ref(), options.parts) else {
-        return Err(RunFault::Gate);
-    };
-    gate.before_run(&options);
-    let answer = run_by(rt, words.counted, &options, &gate, reader, writer);
-    gate.after_run(answer.is_ok());
-    answer
-}
-
 // What tells progress, where it is asked for.
 fn teller_for<F: LendTeller>(asked: bool, faults: &mut F) -> Option<F::Teller>
     ensures silent { asked ≡ false → result ≡ None }
@@ -432,7 +251,7 @@ fn node_status<H: AllocGlobal + RandomSource, R: CountedRead, W: CountedWrite, F
 ) -> u8
     ensures status { (result ≡ 0) ⊎ (result ≡ 1) }
     ensures done { result ≡ 0 → ServesNode
-        (job_settings_of words.now.options) words.now.options.counted words.now.part
+        (settings_of words.now.job.options) words.now.job.counted words.now.part
         (R.remaining reader.old) (R.remaining reader.new)
         (W.contents writer.old) (W.contents writer.new) }
     // It is done only where no call failed.
@@ -461,7 +280,7 @@ fn gather_status<
 >(rt: &H, words: &GatherWords, reader: &mut R, writer: &mut W, faults: &mut F) -> u8
     ensures status { (result ≡ 0) ⊎ (result ≡ 1) }
     ensures done { result ≡ 0 → GathersJob
-        (job_settings_of words.now.options) words.now.options.counted
+        (settings_of words.now.job.options) words.now.job.counted
         (R.remaining reader.old) (R.remaining reader.new)
         (W.contents writer.old) (W.contents writer.new) }
     // It is done only where no call failed.
@@ -470,7 +289,7 @@ fn gather_status<
     ensures fault { result ≡ 1 → FailsGathering words.now R.remaining R.failed_calls
         W.contents W.failed_calls reader.old reader.new writer.old writer.new }
     ensures begun { result ≡ 1 → WritesFrontOfJob
-        (job_settings_of words.now.options) words.now.options.counted
+        (settings_of words.now.job.options) words.now.job.counted
         (R.remaining reader.old) (R.remaining reader.new)
         (W.contents writer.old) (W.contents writer.new) }
     ensures told { result ≡ 0 → TellsAsAsked (words.now.progress ≡ false)
@@ -507,7 +326,7 @@ fn serve_wish<
         BeginsToServe w (R.remaining reader.old)
         W.contents W.failed_calls writer.old writer.new }
     ensures node { (w : Noded) → wish ≡ Wish.Node w → result ≡ 0 → ServesNode
-        (job_settings_of w.options) w.options.counted w.part
+        (settings_of w.job.options) w.job.counted w.part
         (R.remaining reader.old) (R.remaining reader.new)
         (W.contents writer.old) (W.contents writer.new) }
     ensures node_read { (w : Noded) → wish ≡ Wish.Node w → result ≡ 0 →
@@ -515,7 +334,7 @@ fn serve_wish<
     ensures node_written { (w : Noded) → wish ≡ Wish.Node w → result ≡ 0 →
         W.failed_calls writer.new ≡ W.failed_calls writer.old }
     ensures gather { (w : Gathered) → wish ≡ Wish.Gather w → result ≡ 0 → GathersJob
-        (job_settings_of w.options) w.options.counted
+        (settings_of w.job.options) w.job.counted
         (R.remaining reader.old) (R.remaining reader.new)
         (W.contents writer.old) (W.contents writer.new) }
     ensures gather_read { (w : Gathered) → wish ≡ Wish.Gather w → result ≡ 0 →
@@ -523,7 +342,7 @@ fn serve_wish<
     ensures gather_written { (w : Gathered) → wish ≡ Wish.Gather w → result ≡ 0 →
         W.failed_calls writer.new ≡ W.failed_calls writer.old }
     ensures gather_begun { (w : Gathered) → wish ≡ Wish.Gather w → result ≡ 1 → WritesFrontOfJob
-        (job_settings_of w.options) w.options.counted
+        (settings_of w.job.options) w.job.counted
         (R.remaining reader.old) (R.remaining reader.new)
         (W.contents writer.old) (W.contents writer.new) }
     ensures run_fault { (said : Asking) → wish ≡ Wish.Run said → result ≡ 1 →
@@ -570,11 +389,11 @@ pub fn serve<
     ensures replay { (w : Replayed) → IsReplay (texts_of words.now) w → result ≡ 0 →
         ServesReplay w (R.remaining reader.old) W.contents writer.old writer.new }
     ensures node { (w : Noded) → IsNode (texts_of words.now) w → result ≡ 0 → ServesNode
-        (job_settings_of w.options) w.options.counted w.part
+        (settings_of w.job.options) w.job.counted w.part
         (R.remaining reader.old) (R.remaining reader.new)
         (W.contents writer.old) (W.contents writer.new) }
     ensures gather { (w : Gathered) → IsGather (texts_of words.now) w → result ≡ 0 → GathersJob
-        (job_settings_of w.options) w.options.counted
+        (settings_of w.job.options) w.job.counted
         (R.remaining reader.old) (R.remaining reader.new)
         (W.contents writer.old) (W.contents writer.new) }
     // A node and a gathering are done only where no call failed.
@@ -635,7 +454,7 @@ pub fn serve<
         W.contents W.failed_calls writer.old writer.new }
     ensures gather_begun { (w : Gathered) → IsGather (texts_of words.now) w → result ≡ 1 →
         KeptOrFailed W.contents W.failed_calls writer.old writer.new ⊎ GathersFrontOfJob
-        (job_settings_of w.options) w.options.counted
+        (settings_of w.job.options) w.job.counted
         (R.remaining reader.old) (R.remaining reader.new)
         (W.contents writer.old) (W.contents writer.new) }
     ensures silent { result ≡ 0 → AsksProgress (texts_of words.now) false →

@@ -19,6 +19,10 @@ pub enum Told {
     NoLimit {
         limit: u32,
     },
+    /// So many records of an edge list are read so far.
+    Reading {
+        records: u64,
+    },
     /// An edge list is read, of so many records and vertices.
     Read {
         records: u64,
@@ -72,6 +76,9 @@ impl Display for Told {
                     f,
                     "hyperball: no plan has limit {limit} (1 to 4096 are allowed): the job will be refused once the edge list is read"
                 )
+            }
+            Told::Reading { records } => {
+                write!(f, "hyperball: {records} records are read so far")
             }
             Told::Read { records, vertices } => {
                 write!(

@@ -2,7 +2,7 @@
 
 ghost use Rattle.std.specs.Prelude.{◌≡◌, ◌≢◌, ◌<◌, ◌≤◌, ◌+◌, ◌++◌, if◌then◌else◌, [], length, Err};
 ghost use Rattle.std.specs.Prelude.{IfErr, IfOk, OnOk, None, option_map};
-ghost use Rattle.ball_model.specs.Streams.{Rises, TakesAtMost};
+ghost use Rattle.ball_model.specs.Streams.{Rises, RisesByOne, TakesAtMost};
 ghost use Rattle.ball_model.specs.Sections.{after_mark, sections_of};
 ghost use Rattle.hyperball.specs.Whole.{IsLong, IsWholeInput, ReadsFew};
 
@@ -78,7 +78,7 @@ fn read_all<R: CountedRead>(
     ensures memory { result ≡ Err WholeError.Memory →
         TakesAtMost MOST_BYTES (R.remaining reader.old) (R.remaining reader.new) }
     ensures read { result ≡ Err WholeError.Read →
-        Rises (R.failed_calls reader.old) (R.failed_calls reader.new) }
+        RisesByOne (R.failed_calls reader.old) (R.failed_calls reader.new) }
     ensures failed { Rises (R.failed_calls reader.old) (R.failed_calls reader.new) →
         result ≡ Err WholeError.Read }
     ensures sure { R.sure_calls reader.old ≡ None → result ≢ Err WholeError.Read }
@@ -105,7 +105,7 @@ pub fn read_whole<R: CountedRead>(alloc: Global, reader: &mut R) -> Result<Vec<u
     ensures memory { result ≡ Err WholeError.Memory →
         TakesAtMost MOST_BYTES (R.remaining reader.old) (R.remaining reader.new) }
     ensures read { result ≡ Err WholeError.Read →
-        Rises (R.failed_calls reader.old) (R.failed_calls reader.new) }
+        RisesByOne (R.failed_calls reader.old) (R.failed_calls reader.new) }
     ensures failed { Rises (R.failed_calls reader.old) (R.failed_calls reader.new) →
         result ≡ Err WholeError.Read }
     ensures sure { R.sure_calls reader.old ≡ None → result ≢ Err WholeError.Read }

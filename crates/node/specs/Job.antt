@@ -3,26 +3,11 @@ use Rattle.std.specs.Prelude.{◌≡◌, ℕ, ◌≤◌, Bool, true, false, List
 use Rattle.ball_model.specs.Input.{IsPlain, Limits, Network, records}
 use Rattle.ball_model.specs.PlanValue.{PlanValue}
 use Rattle.ball_model.specs.RunText.{Numbers, Settings, counted_in, network_in, plan_asked, plan_over}
-use Rattle.edgelist.specs.Planning.{is_corrected, numbers_with}
 use Rattle.edgelist.specs.Given.{IsGivenUnder}
-use Rattle.edgelist.specs.Reading.{byte_of}
 use Rattle.edgelist.specs.declared.pieces.EdgeReader.{EdgeReader}
 use Rattle.edgelist.specs.declared.read.Delimiter.{Delimiter}
-use Rattle.node.specs.declared.job.JobOptions.{JobOptions}
 use Rattle.node.specs.declared.limits.TheConstants.{MOST_BYTES}
 use Rattle.node.specs.Section.{HasNoMark, ReadsSection}
-
--- ---- what is asked
-
-abbrev pub job_numbers_of : JobOptions → Numbers
-job_numbers_of o =
-    record (numbers_with (is_corrected o.estimate) o.log2m o.seed o.parts o.limit)
-    { large = o.large }
-
-abbrev pub job_settings_of : JobOptions → Settings
-job_settings_of o = record { numbers = job_numbers_of o; delimiter = byte_of o.delimiter }
-
--- ---- what is read
 
 -- a section was read and given to a reader of edges
 pub record GivesSection (limits : Limits) (delimiter : Delimiter)

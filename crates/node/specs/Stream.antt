@@ -2,7 +2,7 @@
 use Rattle.std.specs.Prelude.{◌≡◌, ◌≢◌, ℕ, ◌<◌, List, [], length, Option}
 use Rattle.std.specs.Io.KnownBytes.{Consumes, IsAtEnd}
 use Rattle.std.specs.List.{All}
-use Rattle.ball_model.specs.Streams.{Rises}
+use Rattle.ball_model.specs.Streams.{RisesByOne}
 
 -- no byte ends a line
 abbrev pub HasNoEnd : List ℕ → Type 0
@@ -31,5 +31,5 @@ pub record CutsBody (size : ℕ) (old new : Option (List ℕ)) : Type 0 where
 
 -- a call of the stream failed where the result is this fault, and none where it is another
 pub record FailsAs {S A : Type 0} (failed : S → ℕ) (old new : S) (result fault : A) : Type 0 where
-  pub some : result ≡ fault → Rises (failed old) (failed new)
+  pub some : result ≡ fault → RisesByOne (failed old) (failed new)
   pub none : result ≢ fault → failed new ≡ failed old

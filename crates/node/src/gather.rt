@@ -6,29 +6,29 @@ ghost use Rattle.std.specs.Arc.{arc_value};
 ghost use Rattle.std.specs.Io.KnownBytes.{Consumes, IsAtEnd, Keeps};
 ghost use Rattle.ball_model.specs.Job.{Job, IsJob, job_of, part_of};
 ghost use Rattle.ball_model.specs.State.{State};
-ghost use Rattle.ball_model.specs.Streams.{Rises};
+ghost use Rattle.ball_model.specs.Streams.{RisesByOne};
 ghost use Rattle.checkpoint.specs.Reading.{most_checkpoint_bytes};
 ghost use Rattle.edgelist.specs.Feeding.{feeds_of};
+ghost use Rattle.edgelist.specs.Job.{settings_of};
 ghost use Rattle.report.specs.Ready.{are_ready};
 ghost use Rattle.node.specs.Gathering.{Gathers, GathersJob, ReadsAll, ReadsCheckpoint, part_line};
 ghost use Rattle.node.specs.Gathering.{part_text};
 ghost use Rattle.node.specs.NoReport.{HasNoReport, IsNoReplica, IsNoReport, WritesFront};
 ghost use Rattle.node.specs.NoReport.{WritesFrontOfJob, IsUnwritten, part_length, told_kept};
-ghost use Rattle.node.specs.Job.{job_settings_of};
 ghost use Rattle.node.specs.Stream.{FailsAs, ReadsInLine};
 ghost use Rattle.node.specs.declared.error.JobInputError.TheVariants as no_job;
 
 use crate::command::size;
 use crate::error::GatherError;
 use crate::input::{Body, Line, read_body, read_line};
-use crate::job::{JobOptions, read_job};
+use crate::job::{JobInput, read_job};
 use crate::limits::longest_checkpoint;
 use crate::section::{NextByte, next_of};
 use crate::session::read_back;
 use crate::watched::show_turn;
 use ball_model::{CountedRead, CountedWrite, Plan};
 use checkpoint::KeepError;
-use edgelist::{Feeds, Graph, Part};
+use edgelist::{Feeds, Graph, Part, Watch};
 use replica::Replica;
 use report::{report_ready, write_report_by};
 use std::alloc::{AllocError, AllocGlobal, Global};
@@ -36,7 +36,6 @@ use std::hash::RandomState;
 use std::sync::Arc;
 use std::thread::Threads;
 use world::script::cut;
-use world::watch::Watch;
 
 // The length that a line `part L` tells.
 fn length_in(line: &[u8]) -> Option<u64>
@@ -295,11 +294,11 @@ pub fn gather_parts<T: AllocGlobal + Threads + Sync, R: CountedRead, W: CountedW
         (W.contents writer.old) (W.contents writer.new)) }
     // A call failed exactly where that is told.
     ensures failed { result ≡ Err GatherError.Read →
-        Rises (R.failed_calls reader.old) (R.failed_calls reader.new) }
+        RisesByOne (R.failed_calls reader.old) (R.failed_calls reader.new) }
     ensures counted { result ≢ Err GatherError.Read →
         R.failed_calls reader.new ≡ R.failed_calls reader.old }
     ensures write { result ≡ Err GatherError.Write →
-        Rises (W.failed_calls writer.old) (W.failed_calls writer.new) }
+        RisesByOne (W.failed_calls writer.old) (W.failed_calls writer.new) }
     ensures written { result ≢ Err GatherError.Write →
         W.failed_calls writer.new ≡ W.failed_calls writer.old }
 {
@@ -311,43 +310,43 @@ pub fn gather_parts<T: AllocGlobal + Threads + Sync, R: CountedRead, W: CountedW
 }
 
 /// Reads a job and the checkpoints of all its partitions at the end of their run, and writes their report. The watch is
-/// called once the job is read, and told of each checkpoint. The figures are made by at most so many threads; where 0 are
-/// asked for, by all processors.
+/// called once the job is read, and told of each checkpoint. The figures are made by at most so many threads as the options
+/// say.
 pub fn gather<T: AllocGlobal + Threads + Sync, R: CountedRead, W: CountedWrite, V: Watch>(
     rt: &T,
     state: RandomState,
-    options: &JobOptions,
-    threads: usize,
+    job: &JobInput,
     watch: &V,
     reader: &mut R,
     writer: &mut W,
 ) -> Result<(), GatherError>
-    ensures ok { OnOk result (GathersJob (job_settings_of options.now) options.now.counted
+    ensures ok { OnOk result (GathersJob (settings_of job.now.options) job.now.counted
         (R.remaining reader.old) (R.remaining reader.new)
         (W.contents writer.old) (W.contents writer.new)) }
     // Which refusal it is.
-    ensures refused { IfErr result (HasNoReport (job_settings_of options.now) options.now.counted
+    ensures refused { IfErr result (HasNoReport (settings_of job.now.options) job.now.counted
         (R.remaining reader.old) (R.remaining reader.new)) }
     // Nothing was written, or a beginning of the report where memory was refused or a write failed.
     ensures kept { IfErr result (λ e. IsUnwritten e →
         Keeps (W.contents writer.old) (W.contents writer.new)) }
-    ensures front { OnErr result (WritesFrontOfJob (job_settings_of options.now) options.now.counted
+    ensures front { OnErr result (WritesFrontOfJob (settings_of job.now.options) job.now.counted
         (R.remaining reader.old) (R.remaining reader.new)
         (W.contents writer.old) (W.contents writer.new)) }
     // A call failed exactly where that is told.
     ensures failed { result ≡ Err GatherError.Read →
-        Rises (R.failed_calls reader.old) (R.failed_calls reader.new) }
+        RisesByOne (R.failed_calls reader.old) (R.failed_calls reader.new) }
     ensures unread { result ≡ Err (GatherError.Job no_job.Read) →
-        Rises (R.failed_calls reader.old) (R.failed_calls reader.new) }
+        RisesByOne (R.failed_calls reader.old) (R.failed_calls reader.new) }
     ensures counted { result ≢ Err GatherError.Read → result ≢ Err (GatherError.Job no_job.Read) →
         R.failed_calls reader.new ≡ R.failed_calls reader.old }
     ensures write { result ≡ Err GatherError.Write →
-        Rises (W.failed_calls writer.old) (W.failed_calls writer.new) }
+        RisesByOne (W.failed_calls writer.old) (W.failed_calls writer.new) }
     ensures written { result ≢ Err GatherError.Write →
         W.failed_calls writer.new ≡ W.failed_calls writer.old }
 {
-    let (graph, plan, records) = read_job(rt.alloc(), state, options, reader)?;
+    let (graph, plan, records) = read_job(rt.alloc(), state, job, reader)?;
     watch.after_read(records, graph.vertices());
+    let threads = usize::from(job.options.threads);
     let gathered = gather_parts(rt, &graph, &plan, threads, watch, reader, writer);
     drop(graph);
     gathered

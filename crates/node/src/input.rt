@@ -3,7 +3,7 @@
 ghost use Rattle.std.specs.Prelude.{◌≡◌, ◌≢◌, ◌<◌, ◌≤◌, ◌⊎◌, ◌++◌, ◌∷◌, [], length, OnErr, OnOk};
 ghost use Rattle.std.specs.Prelude.{vec_capacity};
 ghost use Rattle.std.specs.Io.KnownBytes.{Consumes, IsAtEnd};
-ghost use Rattle.ball_model.specs.Streams.{Rises};
+ghost use Rattle.ball_model.specs.Streams.{RisesByOne};
 ghost use Rattle.node.specs.Stream.{CutsBody, FailsAs, HasNoEnd, ReadsBody, ReadsInLine};
 
 use crate::section::{NextByte, next_of};
@@ -70,7 +70,7 @@ pub fn read_line<R: CountedRead>(reader: &mut R, line: &mut Vec<u8>) -> Line
     ensures memory { result ≡ Line.Memory →
         ReadsInLine (R.remaining reader.old) (R.remaining reader.new) }
     ensures failed { result ≡ Line.Failed →
-        Rises (R.failed_calls reader.old) (R.failed_calls reader.new) }
+        RisesByOne (R.failed_calls reader.old) (R.failed_calls reader.new) }
     ensures counted { result ≢ Line.Failed →
         R.failed_calls reader.new ≡ R.failed_calls reader.old }
 {
@@ -142,7 +142,7 @@ pub fn read_body<R: CountedRead>(reader: &mut R, size: u64, body: &mut Vec<u8>) 
     ensures memory { result ≡ Body.Memory →
         ReadsBody size (R.remaining reader.old) (R.remaining reader.new) }
     ensures failed { result ≡ Body.Failed →
-        Rises (R.failed_calls reader.old) (R.failed_calls reader.new) }
+        RisesByOne (R.failed_calls reader.old) (R.failed_calls reader.new) }
     ensures counted { result ≢ Body.Failed →
         R.failed_calls reader.new ≡ R.failed_calls reader.old }
 {

@@ -5,13 +5,13 @@ ghost use Rattle.std.specs.Prelude.{Ok, false, true};
 ghost use Rattle.std.specs.Arc.{arc_value};
 ghost use Rattle.ball_model.specs.Input.{Limits};
 ghost use Rattle.ball_model.specs.Job.{IsJob, job_of, part_of};
-ghost use Rattle.ball_model.specs.RunText.{network_in, plan_asked, run_limits};
-ghost use Rattle.ball_model.specs.Streams.{Rises};
+ghost use Rattle.ball_model.specs.RunText.{network_in, plan_asked};
+ghost use Rattle.ball_model.specs.Streams.{RisesByOne};
 ghost use Rattle.edgelist.specs.Given.{IsGivenUnder};
-ghost use Rattle.edgelist.specs.Planning.{signed};
+ghost use Rattle.edgelist.specs.Job.{numbers_of, settings_of};
 ghost use Rattle.edgelist.specs.Reading.{meaning_under};
+ghost use Rattle.edgelist.specs.declared.read.Delimiter.{Delimiter};
 ghost use Rattle.node.specs.Job.{CountsSome, GivesEdges, HasRecords, IsJobRead, SaysNetwork};
-ghost use Rattle.node.specs.Job.{job_numbers_of, job_settings_of};
 ghost use Rattle.node.specs.NoJob.{GoesBeyond, IsNoJob, IsNoNetwork, IsUncounted, IsUnlisted};
 ghost use Rattle.node.specs.NoJob.{IsUnplanned};
 ghost use Rattle.node.specs.Section.{ReadsSection};
@@ -20,47 +20,19 @@ ghost use Rattle.node.specs.Stream.{FailsAs};
 use crate::error::JobInputError;
 use crate::limits::MOST_BYTES;
 use crate::section::{Cut, SectionStep, next_step};
-use ball_model::{CountedRead, Estimate, Plan, PlanError};
-use edgelist::{Delimiter, EdgeError, EdgeList, EdgeReader, Graph, LARGE_LIMITS, LIMITS, Part};
+use ball_model::{CountedRead, Plan};
+use edgelist::{EdgeList, EdgeReader, Graph, JobOptions, Part};
 use std::alloc::{AllocError, Global};
 use std::hash::RandomState;
 use std::sync::Arc;
 
-/// What is asked of a job.
+/// What is asked of a job that an input says, and whether the input has a list.
 #[derive(Clone, Copy, Debug, PartialEq, Eq)]
-pub struct JobOptions {
-    /// The binary logarithm of the number of registers of a counter.
-    pub log2m: u8,
-    /// The seed under which vertices are hashed.
-    pub seed: u64,
-    /// The number of partitions that vertices are dealt out to.
-    pub parts: u16,
-    /// The superstep at which a node stops at the latest.
-    pub limit: u32,
-    /// How the estimates of counters are made.
-    pub estimate: Estimate,
-    /// What stands between the two fields of a line of the edge list.
-    pub delimiter: Delimiter,
-    /// Whether up to 2^31 vertices and 2^32 - 1 records are taken, in place of 2^24 and 2^26.
-    pub large: bool,
+pub struct JobInput {
+    /// What is asked of the job.
+    pub options: JobOptions,
     /// Whether a list of counted vertices, and a line of %%, stand behind the edge list.
     pub counted: bool,
-}
-
-// A reader of edges that was given nothing yet; one of a large edge list only where that is asked for.
-fn reader_for(
-    alloc: Global,
-    state: RandomState,
-    options: &JobOptions,
-) -> Result<EdgeReader, EdgeError>
-    ensures ok { IfOk result
-        (IsGivenUnder (run_limits options.now.large) options.now.delimiter []) }
-    ensures memory { IfErr result (λ e. e ≡ EdgeError.Memory) }
-{
-    if options.large {
-        return EdgeReader::large(alloc, state, options.delimiter, LARGE_LIMITS);
-    }
-    EdgeReader::new(alloc, state, options.delimiter, LIMITS)
 }
 
 // Gives a reader of edges, which was given nothing yet, the bytes of a section, and tells whether a mark ends it.
@@ -106,18 +78,18 @@ fn need_mark(marked: bool) -> Result<(), JobInputError>
 fn read_edge_section<R: CountedRead>(
     alloc: Global,
     state: RandomState,
-    options: &JobOptions,
+    job: &JobInput,
     reader: &mut R,
 ) -> Result<EdgeList, JobInputError>
-    ensures says { IfOk result (λ read. SaysNetwork (job_settings_of options.now)
+    ensures says { IfOk result (λ read. SaysNetwork (settings_of job.now.options)
         (R.remaining reader.old) (R.remaining reader.new) read.graph) }
-    ensures count { IfOk result (λ read. HasRecords (job_settings_of options.now)
+    ensures count { IfOk result (λ read. HasRecords (settings_of job.now.options)
         (R.remaining reader.old) read.records) }
-    ensures refused { IfErr result (IsNoNetwork (network_in (job_settings_of options.now))
+    ensures refused { IfErr result (IsNoNetwork (network_in (settings_of job.now.options))
         (R.remaining reader.old)) }
     ensures failed { FailsAs R.failed_calls reader.old reader.new result (Err JobInputError.Read) }
 {
-    let mut edges = reader_for(alloc, state, options)?;
+    let mut edges = job.options.reader(alloc, state)?;
     let marked = give_section(alloc, reader, &mut edges)?;
     let read = edges.finish(alloc)?;
     match need_mark(marked) {
@@ -162,65 +134,35 @@ fn read_list<R: CountedRead>(reader: &mut R, list: &mut Vec<u8>) -> Result<(), J
 fn count_listed<R: CountedRead>(
     alloc: Global,
     graph: &mut Graph,
-    options: &JobOptions,
+    job: &JobInput,
     reader: &mut R,
 ) -> Result<(), JobInputError>
-    ensures counts { OnOk result (CountsSome (job_settings_of options.now) options.now.counted
+    ensures counts { OnOk result (CountsSome (settings_of job.now.options) job.now.counted
         (R.remaining reader.old) (R.remaining reader.new) graph.old graph.new) }
-    ensures asked { IsErr result → options.now.counted ≡ true }
-    ensures refused { IfErr result (IsUncounted (job_settings_of options.now)
+    ensures asked { IsErr result → job.now.counted ≡ true }
+    ensures refused { IfErr result (IsUncounted (settings_of job.now.options)
         (R.remaining reader.old) graph.old) }
     ensures failed { FailsAs R.failed_calls reader.old reader.new result (Err JobInputError.Read) }
 {
-    if !options.counted {
+    if !job.counted {
         return Ok(());
     }
     let mut list = Vec::new(alloc);
     read_list(reader, &mut list)?;
-    graph.count_only(alloc, options.delimiter, &list)?;
+    job.options.count_listed(alloc, graph, Some(&list))?;
     Ok(())
 }
 
-// The plan over a graph but for its digest, or the first fault of the options.
-fn bare_plan_for(graph: &Graph, options: &JobOptions) -> Result<Plan, PlanError>
-    ensures ok { IfOk result (λ bare. Ok (signed graph.now.graph bare) ≡
-        plan_asked (job_numbers_of options.now) graph.now.graph) }
-    ensures refused { IfErr result (λ fault. Err fault ≡
-        plan_asked (job_numbers_of options.now) graph.now.graph) }
-    ensures job { IfOk result (λ bare. IsJob (job_of graph.now.graph
-        (signed graph.now.graph bare))) }
-{
-    let JobOptions {
-        log2m,
-        seed,
-        parts,
-        limit,
-        ..
-    } = *options;
-    if options.large {
-        return graph.large_plan(options.estimate, log2m, seed, parts, limit);
-    }
-    graph.bare_plan(options.estimate, log2m, seed, parts, limit)
-}
-
-// The plan with its job digest.
-fn signed(graph: &Graph, bare: Plan) -> Plan
-    ensures { result ≡ signed graph.now.graph bare }
-{
-    let job = graph.digest(&bare);
-    bare.with_job(job)
-}
-
 // The plan over a graph, or the first fault of the options. It takes no memory.
-fn plan_for(graph: &Graph, options: &JobOptions) -> Result<Plan, JobInputError>
+fn plan_for(graph: &Graph, job: &JobInput) -> Result<Plan, JobInputError>
     ensures value { IfOk result (λ plan.
-        Ok plan ≡ plan_asked (job_numbers_of options.now) graph.now.graph) }
+        Ok plan ≡ plan_asked (numbers_of job.now.options) graph.now.graph) }
     ensures job { IfOk result (λ plan. IsJob (job_of graph.now.graph plan)) }
     ensures refused { IfErr result
-        (IsUnplanned (plan_asked (job_numbers_of options.now) graph.now.graph)) }
+        (IsUnplanned (plan_asked (numbers_of job.now.options) graph.now.graph)) }
 {
-    let bare = bare_plan_for(graph, options)?;
-    Ok(signed(graph, bare))
+    let plan = job.options.plan(graph)?;
+    Ok(plan)
 }
 
 /// A partition's part of a job.
@@ -242,25 +184,25 @@ pub fn part_of(alloc: Global, graph: &Graph, plan: &Plan, p: u16) -> Result<Arc<
 pub fn read_job<R: CountedRead>(
     alloc: Global,
     state: RandomState,
-    options: &JobOptions,
+    job: &JobInput,
     reader: &mut R,
 ) -> Result<(Graph, Plan, u64), JobInputError>
-    ensures read { IfOk result (λ all. IsJobRead (job_settings_of options.now) options.now.counted
+    ensures read { IfOk result (λ all. IsJobRead (settings_of job.now.options) job.now.counted
         (R.remaining reader.old) (R.remaining reader.new) all.0 all.1) }
     ensures job { IfOk result (λ all. IsJob (job_of all.0.graph all.1)) }
-    ensures count { IfOk result (λ all. HasRecords (job_settings_of options.now)
+    ensures count { IfOk result (λ all. HasRecords (settings_of job.now.options)
         (R.remaining reader.old) all.2) }
     // Which refusal it is.
-    ensures refused { IfErr result (IsNoJob (job_settings_of options.now) options.now.counted
+    ensures refused { IfErr result (IsNoJob (settings_of job.now.options) job.now.counted
         (R.remaining reader.old) (R.remaining reader.new)) }
     // A call failed exactly where that is told.
     ensures failed { result ≡ Err JobInputError.Read →
-        Rises (R.failed_calls reader.old) (R.failed_calls reader.new) }
+        RisesByOne (R.failed_calls reader.old) (R.failed_calls reader.new) }
     ensures counted { result ≢ Err JobInputError.Read →
         R.failed_calls reader.new ≡ R.failed_calls reader.old }
 {
-    let mut read = read_edge_section(alloc, state, options, reader)?;
-    count_listed(alloc, &mut read.graph, options, reader)?;
-    let plan = plan_for(&read.graph, options)?;
+    let mut read = read_edge_section(alloc, state, job, reader)?;
+    count_listed(alloc, &mut read.graph, job, reader)?;
+    let plan = plan_for(&read.graph, job)?;
     Ok((read.graph, plan, read.records))
 }

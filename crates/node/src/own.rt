@@ -6,7 +6,7 @@ ghost use Rattle.ball_model.specs.Job.{Job};
 ghost use Rattle.ball_model.specs.Join.{Holding};
 ghost use Rattle.ball_model.specs.PlanValue.{mixing_of};
 ghost use Rattle.ball_model.specs.Report.{vertex_text};
-ghost use Rattle.ball_model.specs.Streams.{Rises};
+ghost use Rattle.ball_model.specs.Streams.{RisesByOne};
 ghost use Rattle.node.specs.NodeText.{figures_text};
 ghost use Rattle.node.specs.Stream.{FailsAs};
 ghost use Rattle.node.specs.Turns.{AppendsOf};
@@ -82,7 +82,7 @@ pub fn tell_own<W: CountedWrite>(
         (W.contents writer.old) (W.contents writer.new)) }
     // A call failed exactly where that is told.
     ensures write { result ≡ Err TellError.Write →
-        Rises (W.failed_calls writer.old) (W.failed_calls writer.new) }
+        RisesByOne (W.failed_calls writer.old) (W.failed_calls writer.new) }
     ensures written { result ≢ Err TellError.Write →
         W.failed_calls writer.new ≡ W.failed_calls writer.old }
 {

@@ -6,7 +6,7 @@
 ghost use Rattle.std.specs.Prelude.{◌≡◌, ◌≢◌, ℕ, ◌∷◌, ◌==◌, [], true, false, option_map};
 ghost use Rattle.std.specs.Io.KnownBytes.{Consumes, IsAtEnd, Keeps, prepend_known};
 ghost use Rattle.ball_model.specs.Sections.{after_line, after_mark};
-ghost use Rattle.ball_model.specs.Streams.{Rises};
+ghost use Rattle.ball_model.specs.Streams.{RisesByOne};
 ghost use Rattle.node.specs.Section.{EndsAtMark, Gives, IsAhead, IsByteOrEnd, IsOver, IsPast};
 ghost use Rattle.node.specs.Section.{is_front, is_tail};
 ghost use Rattle.node.specs.Stream.{FailsAs};
@@ -35,7 +35,7 @@ pub fn next_of<R: CountedRead>(reader: &mut R) -> NextByte
     ensures same { result ≡ NextByte.Failed →
         Keeps (R.remaining reader.old) (R.remaining reader.new) }
     ensures failed { result ≡ NextByte.Failed →
-        Rises (R.failed_calls reader.old) (R.failed_calls reader.new) }
+        RisesByOne (R.failed_calls reader.old) (R.failed_calls reader.new) }
     ensures counted { result ≢ NextByte.Failed →
         R.failed_calls reader.new ≡ R.failed_calls reader.old }
 {
@@ -120,7 +120,7 @@ fn look<R: CountedRead>(reader: &mut R, ahead: &mut ArrayVec<u8, 4>) -> bool
         IsAtEnd (R.remaining reader.new) }
     ensures front { result ≡ false → is_front ahead.new.items ≡ true }
     ensures failed { result ≡ false →
-        Rises (R.failed_calls reader.old) (R.failed_calls reader.new) }
+        RisesByOne (R.failed_calls reader.old) (R.failed_calls reader.new) }
     ensures counted { result ≡ true →
         R.failed_calls reader.new ≡ R.failed_calls reader.old }
 {
@@ -261,7 +261,7 @@ pub fn next_step<R: CountedRead>(reader: &mut R, cut: &mut Cut) -> SectionStep
         (prepend_known cut.new.ahead.items (R.remaining reader.new)) }
     ensures still { result ≡ SectionStep.Failed → cut.new.begins ≡ cut.old.begins }
     ensures failed { result ≡ SectionStep.Failed →
-        Rises (R.failed_calls reader.old) (R.failed_calls reader.new) }
+        RisesByOne (R.failed_calls reader.old) (R.failed_calls reader.new) }
     ensures counted { result ≢ SectionStep.Failed →
         R.failed_calls reader.new ≡ R.failed_calls reader.old }
 {

@@ -8,10 +8,11 @@ ghost use Rattle.ball_model.specs.Input.{Network, fields};
 ghost use Rattle.ball_model.specs.Job.{IsJob, job_of};
 ghost use Rattle.ball_model.specs.Held.{start_holding};
 ghost use Rattle.ball_model.specs.RunText.{Settings};
-ghost use Rattle.ball_model.specs.Streams.{Rises};
+ghost use Rattle.ball_model.specs.Streams.{RisesByOne};
 ghost use Rattle.ball_model.specs.WorldText.{refusal_line};
 ghost use Rattle.node.specs.NodeText.{body_length, command_in, sent_text};
-ghost use Rattle.node.specs.Job.{IsJobRead, job_settings_of};
+ghost use Rattle.edgelist.specs.Job.{settings_of};
+ghost use Rattle.node.specs.Job.{IsJobRead};
 ghost use Rattle.node.specs.NoJob.{HasNoNode, IsNoStart};
 ghost use Rattle.node.specs.Serving.{IsNoRequest, IsOfMachine, ReadsRequest, ServesRest};
 ghost use Rattle.node.specs.Serving.{ServesNode, ServesNone, ServesOne, Steps, StopsServing};
@@ -27,7 +28,7 @@ use crate::answers::{put_kept, put_reply, put_sent};
 use crate::command::{Command, command_of, length_of};
 use crate::error::{JobInputError, ServeError, ServeNodeError};
 use crate::input::{Body, Line, read_body, read_line};
-use crate::job::{JobOptions, part_of, read_job};
+use crate::job::{JobInput, part_of, read_job};
 use crate::limits::is_within;
 use crate::own::tell_own;
 use crate::session::{Reply, Session};
@@ -37,14 +38,13 @@ use ball_model::world::WorldError;
 use ball_model::{CountedRead, CountedWrite, NodeId, Plan};
 use batches::Batch;
 use checkpoint::{checkpoint_length, write_checkpoint};
-use edgelist::{Graph, Part};
+use edgelist::{Graph, Part, Watch};
 use replica::{Replica, Shown};
 use report::totals_text;
 use std::alloc::Global;
 use std::hash::RandomState;
 use world::answer::put_refusal;
 use world::tell::{TellError, write_lines};
-use world::watch::Watch;
 
 // Writes the line of what a node says.
 fn tell<W: CountedWrite>(reply: Reply, line: &mut Vec<u8>, writer: &mut W) -> Result<(), TellError>
@@ -420,11 +420,11 @@ pub fn serve_commands<R: CountedRead, W: CountedWrite, V: Watch>(
         StopsWanting session.old.part (R.remaining reader.old) (R.remaining reader.new) }
     // A call failed exactly where that is told.
     ensures read { result ≡ Err ServeError.Read →
-        Rises (R.failed_calls reader.old) (R.failed_calls reader.new) }
+        RisesByOne (R.failed_calls reader.old) (R.failed_calls reader.new) }
     ensures counted { result ≢ Err ServeError.Read →
         R.failed_calls reader.new ≡ R.failed_calls reader.old }
     ensures write { result ≡ Err ServeError.Write →
-        Rises (W.failed_calls writer.old) (W.failed_calls writer.new) }
+        RisesByOne (W.failed_calls writer.old) (W.failed_calls writer.new) }
     ensures written { result ≢ Err ServeError.Write →
         W.failed_calls writer.new ≡ W.failed_calls writer.old }
 {
@@ -502,46 +502,46 @@ fn serve_part<R: CountedRead, W: CountedWrite, V: Watch>(
 pub fn serve_node<R: CountedRead, W: CountedWrite, V: Watch>(
     alloc: Global,
     state: RandomState,
-    options: &JobOptions,
+    job: &JobInput,
     part: u16,
     watch: &V,
     reader: &mut R,
     writer: &mut W,
 ) -> Result<(), ServeNodeError>
-    ensures served { OnOk result (ServesNode (job_settings_of options.now) options.now.counted part
+    ensures served { OnOk result (ServesNode (settings_of job.now.options) job.now.counted part
         (R.remaining reader.old) (R.remaining reader.new)
         (W.contents writer.old) (W.contents writer.new)) }
     // What was answered before a request that cannot be read stands.
     ensures stopped { (e : Fault) → result ≡ Err (ServeNodeError.Serve e) → (IsOfMachine e → ⊥) →
-        StopsNode (job_settings_of options.now) options.now.counted part e
+        StopsNode (settings_of job.now.options) job.now.counted part e
         (R.remaining reader.old) (R.remaining reader.new)
         (W.contents writer.old) (W.contents writer.new) }
     // Behind the job memory is refused only where what was read is requests, and the front of a line or all of a
     // request.
     ensures wanting { result ≡ Err (ServeNodeError.Serve ServeError.Memory) →
-        WantsNode (job_settings_of options.now) options.now.counted part
+        WantsNode (settings_of job.now.options) job.now.counted part
         (R.remaining reader.old) (R.remaining reader.new) }
     // Where there is no job nothing is answered.
     ensures jobless { (e : NoJob) → result ≡ Err (ServeNodeError.Job e) →
         Keeps (W.contents writer.old) (W.contents writer.new) }
     // Which refusal it is.
     ensures refused { (e : NoJob) → result ≡ Err (ServeNodeError.Job e) →
-        HasNoNode (job_settings_of options.now) options.now.counted part
+        HasNoNode (settings_of job.now.options) job.now.counted part
         (R.remaining reader.old) (R.remaining reader.new) e }
     // A call failed exactly where that is told.
     ensures read { result ≡ Err (ServeNodeError.Serve ServeError.Read) →
-        Rises (R.failed_calls reader.old) (R.failed_calls reader.new) }
+        RisesByOne (R.failed_calls reader.old) (R.failed_calls reader.new) }
     ensures unread { result ≡ Err (ServeNodeError.Job JobInputError.Read) →
-        Rises (R.failed_calls reader.old) (R.failed_calls reader.new) }
+        RisesByOne (R.failed_calls reader.old) (R.failed_calls reader.new) }
     ensures counted { result ≢ Err (ServeNodeError.Serve ServeError.Read) →
         result ≢ Err (ServeNodeError.Job JobInputError.Read) →
         R.failed_calls reader.new ≡ R.failed_calls reader.old }
     ensures write { result ≡ Err (ServeNodeError.Serve ServeError.Write) →
-        Rises (W.failed_calls writer.old) (W.failed_calls writer.new) }
+        RisesByOne (W.failed_calls writer.old) (W.failed_calls writer.new) }
     ensures written { result ≢ Err (ServeNodeError.Serve ServeError.Write) →
         W.failed_calls writer.new ≡ W.failed_calls writer.old }
 {
-    let (graph, plan, records) = read_job(alloc, state, options, reader)?;
+    let (graph, plan, records) = read_job(alloc, state, job, reader)?;
     watch.after_read(records, graph.vertices());
     let served = serve_part(alloc, &graph, &plan, part, watch, reader, writer);
     drop(graph);

@@ -3,7 +3,7 @@
 ghost use Rattle.std.specs.Prelude.{◌≡◌, ◌≢◌, ◌<◌, ◌%◌, Err, OnOk};
 ghost use Rattle.std.specs.List.{flat_map};
 ghost use Rattle.ball_model.specs.State.{own_vertices};
-ghost use Rattle.ball_model.specs.Streams.{Rises};
+ghost use Rattle.ball_model.specs.Streams.{RisesByOne};
 ghost use Rattle.ball_model.specs.WorldText.{row_text, show_text};
 ghost use Rattle.node.specs.Stream.{FailsAs};
 ghost use Rattle.node.specs.Turns.{AppendsOf};
@@ -62,7 +62,7 @@ pub fn tell_shown<W: CountedWrite>(
         (W.contents writer.old) (W.contents writer.new)) }
     // A call failed exactly where that is told.
     ensures write { result ≡ Err TellError.Write →
-        Rises (W.failed_calls writer.old) (W.failed_calls writer.new) }
+        RisesByOne (W.failed_calls writer.old) (W.failed_calls writer.new) }
     ensures written { result ≢ Err TellError.Write →
         W.failed_calls writer.new ≡ W.failed_calls writer.old }
 {

@@ -7,23 +7,25 @@ mod vectors;
 mod watched;
 
 use crate::error::ServeNodeError;
-use crate::job::JobOptions;
+use crate::job::JobInput;
 use crate::serve::serve_node;
 use ball_model::{CountedWrite, Estimate, MemReader, MemWriter};
-use edgelist::Delimiter;
+use edgelist::{Delimiter, JobOptions, Unwatched, Watch};
 use std::hash::RandomState;
-use world::watch::{Unwatched, Watch};
 
-/// The options of a job in so many partitions.
-fn options(parts: u16) -> JobOptions {
-    JobOptions {
-        log2m: 4,
-        seed: 0,
-        parts,
-        limit: 4096,
-        estimate: Estimate::Raw,
-        delimiter: Delimiter::Tab,
-        large: false,
+/// What is asked of a job in so many partitions.
+fn job(parts: u16) -> JobInput {
+    JobInput {
+        options: JobOptions {
+            log2m: 4,
+            seed: 0,
+            parts,
+            limit: 4096,
+            estimate: Estimate::Raw,
+            delimiter: Delimiter::Tab,
+            large: false,
+            threads: 1,
+        },
         counted: false,
     }
 }
@@ -31,12 +33,12 @@ fn options(parts: u16) -> JobOptions {
 /// How the node of partition 0 ends that reads this. What it writes goes to the writer.
 fn end_of<W: CountedWrite, V: Watch>(
     rt: &HostRuntime,
-    options: &JobOptions,
+    job: &JobInput,
     input: &[u8],
     watch: &V,
     writer: &mut W,
 ) -> Option<Result<(), ServeNodeError>> {
     let state = RandomState::new(rt).ok()?;
     let mut reader = MemReader::new(input, None);
-    Some(serve_node(rt.alloc(), state, options, 0, watch, &mut reader, writer))
+    Some(serve_node(rt.alloc(), state, job, 0, watch, &mut reader, writer))
 }

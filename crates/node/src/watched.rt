@@ -2,8 +2,8 @@
 
 use ball_model::NodeId;
 use ball_model::world::Answer;
+use edgelist::Watch;
 use replica::{Replica, Shown};
-use world::watch::Watch;
 
 /// A watch is told that a replica, the only one of its partition, has gone on to its superstep.
 pub fn show_turn<V: Watch>(replica: &Replica, watch: &V) {

@@ -24,7 +24,7 @@ pub fn next_marked(marks: &[bool], from: usize) -> usize
     }
 }
 
-// The same, block by block.
+// The next marked vertex from `from` on, found block by block.
 #[inline(never)]
 fn next_by_blocks(marks: &[bool], from: usize) -> usize
     requires { from ≤ length marks.now }

@@ -280,7 +280,7 @@ fn part(own: &mut Rows, out: &mut Option<Shared>)
     }
 }
 
-// The same rows, in the room.
+// A copy of the rows, in their room.
 #[inline(never)]
 fn copy_of(out: Shared) -> Rows
     ensures { result ≡ out }

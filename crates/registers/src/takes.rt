@@ -16,8 +16,7 @@ fn take_block(ahead: &Rows, from: usize, marks: &[bool], cells: &mut [u8])
     ensures { AreThoseFrom ahead.now from
         (pieces ahead.now.width (length marks.now) cells.new) (length marks.now) }
 {
-    // the limits of a table are told with its length
-    let _limits = ahead.len();
+    ahead.limits();
     let mut k = next_marked(marks, 0);
     while k < marks.len() {
         put_piece(cells, ahead.width(), k, ahead.row(from + k));
@@ -43,8 +42,7 @@ fn take_halves<R: Threads + Sync>(
         take_block(ahead, from, marks, cells);
         return;
     }
-    // the limits of a table are told with its length
-    let _limits = ahead.len();
+    ahead.limits();
     let mid = marks.len() / 2;
     let (first, last) = marks.split_at(mid);
     let (front, back) = cells.split_at_mut(mid * ahead.width());

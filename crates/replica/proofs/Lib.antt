@@ -7,6 +7,7 @@ pub mod OptionLemmas
 pub mod HearingLemmas
 pub mod HeardLemmas
 pub mod SpreadLemmas
+pub mod WaitingLemmas
 pub mod PullLemmas
 pub mod SeenLemmas
 pub mod SentLemmas

@@ -14,6 +14,7 @@ pub mod Sent
 pub mod Merged
 pub mod Runs
 pub mod Heard
+pub mod Waiting
 pub mod Saved
 pub mod Progress
 pub mod Pull

@@ -60,6 +60,7 @@ mod tables;
 mod tallies;
 mod targets;
 mod told;
+mod waiting;
 mod weights;
 
 use early::Early;

@@ -66,6 +66,13 @@ pub trait Shown {
         s.superstep
     }
 
+    /// Does nothing. Its contract tells the limits that every replica keeps, for proofs.
+    final fn limits(&self)
+        ensures { IsState (state self.now) }
+    {
+        let _superstep = self.superstep();
+    }
+
     /// Whether vertex `x` is one of the partition.
     final fn owns(&self, x: u32) -> bool
         ensures vertex { IsTrue result → x < (state self.now).part.plan.vertices }

@@ -5,6 +5,7 @@ ghost use Rattle.replica.specs.Spread.{CanRaise, CanSpreadOwn, CanSpreadRows};
 ghost use Rattle.replica.specs.Heard.{MarksBefore, Raises, SpreadsBatch, SpreadsOwn, SpreadsRow};
 
 use crate::targets::Targets;
+use crate::waiting::spread_waiting;
 use batches::Batch;
 use edgelist::Part;
 use registers::{LINE, Rows, next_marked};
@@ -60,8 +61,28 @@ pub fn spread_batch(targets: &Targets, batch: &Batch, accumulated: &mut Rows, to
 /// Where the rows are the counters at t and the marks say which of them are changed there, the accumulators of what
 /// was heard become those of what was heard and the own vertices. It takes no memory, and time in proportion to the
 /// edges of the marked ones into the part; marks are passed over 64 at once where none is set.
-#[inline(never)]
 pub fn spread_own(
+    targets: &Targets,
+    part: &Part,
+    rows: &Rows,
+    marks: &[bool],
+    accumulated: &mut Rows,
+    touched: &mut [bool],
+)
+    requires { CanSpreadOwn targets.now part.now rows.now marks.now accumulated.old touched.old }
+    ensures { SpreadsOwn targets.now part.now rows.now.rows marks.now
+        accumulated.old accumulated.new touched.old touched.new }
+{
+    if rows.width() <= LINE {
+        spread_in_turn(targets, part, rows, marks, accumulated, touched);
+    } else {
+        spread_waiting(targets, part, rows, marks, accumulated, touched);
+    }
+}
+
+// The same, one row after the other.
+#[inline(never)]
+fn spread_in_turn(
     targets: &Targets,
     part: &Part,
     rows: &Rows,

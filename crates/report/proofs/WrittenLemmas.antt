@@ -6,7 +6,7 @@ use Rattle.ball_model.specs.Input.{Network}
 use Rattle.ball_model.specs.Job.{Job}
 use Rattle.ball_model.specs.State.{State}
 use Rattle.ball_model.proofs.StreamLemmas.{written_both, written_none}
-use Rattle.ball_model.specs.Streams.{PutsFront, Rises, TextWritten}
+use Rattle.ball_model.specs.Streams.{PutsFront, RisesByOne, TextWritten}
 use Rattle.std.specs.Io.KnownBytes.{Appends}
 use Rattle.report.specs.declared.write.ReportError.{ReportError}
 use Rattle.report.specs.declared.write.ReportError.TheVariants as fault
@@ -86,6 +86,6 @@ none_failed contents failed a b text (Ok u) h other = h.counted
 none_failed contents failed a b text (Err e) h other = h.counted (λ is. other (ap Err is))
 
 pub one_failed : {W : Type 0} (contents : W → Option (List ℕ)) (failed : W → ℕ) (a b : W) (text : List ℕ) (r : Result (Unit {0}) ReportError) → WritesText contents failed a b text r →
-    r ≡ Err fault.Write → Rises (failed a) (failed b)
+    r ≡ Err fault.Write → RisesByOne (failed a) (failed b)
 one_failed contents failed a b text (Ok u) h is = absurd (cc is)
 one_failed contents failed a b text (Err e) h is = h.failed_one (cc is)

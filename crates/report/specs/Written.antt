@@ -1,6 +1,6 @@
 -- What writing a text came to.
 use Rattle.std.specs.Prelude.{◌≡◌, ◌≢◌, ℕ, List, Option, Result, MatchResult}
-use Rattle.ball_model.specs.Streams.{PutsFront, Rises, TextWritten}
+use Rattle.ball_model.specs.Streams.{PutsFront, RisesByOne, TextWritten}
 use Rattle.report.specs.declared.write.ReportError.{ReportError}
 use Rattle.report.specs.declared.write.ReportError.TheVariants as fault
 
@@ -9,7 +9,7 @@ use Rattle.report.specs.declared.write.ReportError.TheVariants as fault
 pub record WrittenInPart {W : Type 0} (contents : W → Option (List ℕ)) (failed : W → ℕ)
     (old new : W) (text : List ℕ) (e : ReportError) : Type 0 where
   pub front : PutsFront (contents old) (contents new) text
-  pub failed_one : e ≡ fault.Write → Rises (failed old) (failed new)
+  pub failed_one : e ≡ fault.Write → RisesByOne (failed old) (failed new)
   pub counted : e ≢ fault.Write → failed new ≡ failed old
 
 -- the result is Ok where the whole text was written, and else the error where only a beginning was

@@ -5,6 +5,7 @@ ghost use Rattle.std.specs.Prelude.{IsOk, OnErr, OnOk, Some};
 ghost use Rattle.std.specs.Io.{WritesAtMost};
 ghost use Rattle.std.specs.Io.KnownBytes.{Appends, Keeps, WriteAppends};
 ghost use Rattle.std.specs.IoError.{error_kind};
+ghost use Rattle.ball_model.specs.Streams.{RisesByOne};
 
 use ball_model::{CountedWrite, put_all};
 use std::alloc::Global;
@@ -46,7 +47,8 @@ impl Pages {
         ensures done { result ≡ true →
             Appends (W.contents writer.old) (W.contents writer.new) self.now }
         ensures counted { result ≡ true → W.failed_calls writer.new ≡ W.failed_calls writer.old }
-        ensures failed { result ≡ false → W.failed_calls writer.old < W.failed_calls writer.new }
+        ensures failed { result ≡ false →
+            RisesByOne (W.failed_calls writer.old) (W.failed_calls writer.new) }
     {
         for page in &self.pages {
             if !put_all(writer, page) {

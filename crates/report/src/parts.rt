@@ -54,7 +54,7 @@ fn own_figures<T: AllocGlobal + Threads + Sync>(
     ensures value { IfOk result (λ own. own.items ≡ figures_among first last replica.now) }
     ensures size { HasSize replica.now }
 {
-    let _superstep = replica.superstep();
+    replica.limits();
     let alloc = rt.alloc();
     figures_within(
         rt,

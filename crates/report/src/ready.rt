@@ -19,7 +19,7 @@ pub fn report_ready(replicas: &[Replica]) -> bool
         && all_ready(first.plan(), first.superstep(), replicas)
 }
 
-// The same, of the replicas of partition 0 and those that follow, under a plan at a superstep.
+// Whether replicas of partition 0 and those that follow are ready, under a plan at a superstep.
 fn all_ready(plan: &Plan, superstep: u32, replicas: &[Replica]) -> bool
     ensures { result ≡ ready_from plan.now superstep 0 replicas.now }
 {
@@ -31,7 +31,7 @@ fn all_ready(plan: &Plan, superstep: u32, replicas: &[Replica]) -> bool
     true
 }
 
-// The same, of the replica of partition `p`.
+// Whether the replica of partition `p` is.
 fn is_ready(plan: &Plan, superstep: u32, p: usize, replica: &Replica) -> bool
     ensures { result ≡ is_ready plan.now superstep p replica.now }
 {

@@ -272,7 +272,7 @@ fn are_reports_of<H: AllocGlobal + Threads + Sync>(rt: &H, graph: &Graph, worked
     all
 }
 
-// The same, of the graph of its edge list.
+// Whether it is the report of the graph of its edge list.
 fn is_worked<H: AllocGlobal + RandomSource + Threads + Sync>(rt: &H, worked: &Worked) -> bool {
     match graph_of(rt, worked.0) {
         Some(graph) => are_reports_of(rt, &graph, worked),
@@ -361,7 +361,7 @@ fn ready_in_order(all: &mut [Replica]) -> Option<(bool, bool, bool, bool)> {
     Some((whole, alone, report_ready(&[]), report_ready(all)))
 }
 
-// The same, of replicas at the end.
+// Which of two replicas at the end are ready.
 fn two_in_order<H: AllocGlobal + RandomSource>(rt: &H) -> Option<(bool, bool, bool, bool)> {
     let mut all = two_at(rt, 4096, 3)?;
     ready_in_order(&mut all)
@@ -405,7 +405,7 @@ fn written_in<H: AllocGlobal + Threads + Sync>(
     written(rt, &mut CountingWriter::new(&mut full), graph, &all, 0)
 }
 
-// The same, of the two edges.
+// The answer for the two edges.
 fn two_edges_in<H: AllocGlobal + RandomSource + Threads + Sync>(
     rt: &H,
     calls: u32,

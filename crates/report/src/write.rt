@@ -2,7 +2,7 @@
 
 ghost use Rattle.std.specs.Prelude.{◌≡◌, ◌≢◌, ℕ, ◌≤◌, ◌<◌, Err, OnErr, OnOk, true};
 ghost use Rattle.std.specs.List.{All};
-ghost use Rattle.ball_model.specs.Streams.{Rises};
+ghost use Rattle.ball_model.specs.Streams.{RisesByOne};
 ghost use Rattle.report.specs.Parts.{AreAmong, head_text, lines_between, lines_from, lines_of_all};
 ghost use Rattle.report.specs.Parts.{lists_in, totals_in};
 ghost use Rattle.report.specs.Ready.{AddsFront, AddsReportOfAll, are_ready};
@@ -115,7 +115,8 @@ fn put_lines<W: CountedWrite>(
     Ok(())
 }
 
-// The same, of figures that are made for it by at most so many threads, or by all processors where 0 are asked for.
+// Writes the lines of the vertices from `from` on and below `to`. Their figures are made by at most so many threads, or
+// by all processors if 0 are asked for.
 fn put_block<T: AllocGlobal + Threads + Sync, W: CountedWrite>(
     rt: &T,
     writer: &mut W,
@@ -169,6 +170,8 @@ fn put_vertices<T: AllocGlobal + Threads + Sync, W: CountedWrite>(
 /// with its label, estimate, harmonic centrality, closeness, Lin's index and number of empty registers, in order of
 /// its number (HyperBall 2013). The figures of some vertices at a time are made by all processors, and the text goes
 /// out in pieces: what was written before an error is a beginning of the report.
+///
+/// For a library's user: the program does not call it.
 pub fn write_report<T: AllocGlobal + Threads + Sync, W: CountedWrite>(
     rt: &T,
     writer: &mut W,
@@ -184,12 +187,13 @@ pub fn write_report<T: AllocGlobal + Threads + Sync, W: CountedWrite>(
     ensures counted { result ≢ Err ReportError.Write →
         W.failed_calls writer.new ≡ W.failed_calls writer.old }
     ensures write { result ≡ Err ReportError.Write →
-        Rises (W.failed_calls writer.old) (W.failed_calls writer.new) }
+        RisesByOne (W.failed_calls writer.old) (W.failed_calls writer.new) }
 {
     write_report_by(rt, writer, graph, replicas, 0)
 }
 
-/// The same, where the figures are made by at most so many threads; by all processors where 0 are asked for.
+/// Writes the report as [`write_report`] does. The figures are made by at most so many threads; by all processors if 0
+/// are asked for.
 pub fn write_report_by<T: AllocGlobal + Threads + Sync, W: CountedWrite>(
     rt: &T,
     writer: &mut W,
@@ -206,7 +210,7 @@ pub fn write_report_by<T: AllocGlobal + Threads + Sync, W: CountedWrite>(
     ensures counted { result ≢ Err ReportError.Write →
         W.failed_calls writer.new ≡ W.failed_calls writer.old }
     ensures write { result ≡ Err ReportError.Write →
-        Rises (W.failed_calls writer.old) (W.failed_calls writer.new) }
+        RisesByOne (W.failed_calls writer.old) (W.failed_calls writer.new) }
 {
     let first = &replicas[0];
     let end = first.superstep();

@@ -1,6 +1,8 @@
 -- What the threads of a run are given may cross threads, and what they share may be shared.
 use denote.Param.Send.{IsSend, IsSync, sendable}
-use Rattle.std.proofs.Crossing.{crosses}
+use Rattle.std.proofs.Crossing.{crosses, send as heap_send, sync as heap_sync}
+use Rattle.atomic_table.proofs.shared.Shared.TheSendSync as table
+use Rattle.atomic_table.proofs.send_lease.SendLease.TheSendSync as lease
 use Rattle.board.proofs.Crossing.{seat_send}
 use Rattle.edgelist.proofs.Crossing.{shared_part_send}
 use Rattle.replica.proofs.Crossing.{targets_send}
@@ -16,4 +18,4 @@ pub post_send : IsSend post.the_row
 post_send = search (seat_send, ready_part_send, sendable, crosses) depth 30
 
 pub running_sync : IsSync running.the_row
-running_sync = search (sendable, crosses) depth 30
+running_sync = search (sendable, crosses, table.the_sync, lease.the_sync, heap_send, heap_sync) depth 30

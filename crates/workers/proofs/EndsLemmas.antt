@@ -201,7 +201,7 @@ part_kept p k rest own old now lost none h all is =
     } in
     noted_all p k rest own old now none h ∙ (kept ∙ ap (λ (b : Bool). with_lost b p own old) (sym (lost_all rest own lost false none all is)))
 
--- ---- the same of plain lists
+-- ---- the ends of all nodes as plain lists
 any_map : {A B : Type 0} (f : A → B) (has : B → Bool) (xs : List A) → list_any (λ x. has (f x)) xs ≡ list_any has (map f xs)
 any_map f has [] = refl
 any_map f has (x ∷ xs) = ap (λ (b : Bool). has (f x) || b) (any_map f has xs)

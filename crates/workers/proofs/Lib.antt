@@ -1,6 +1,7 @@
 pub mod Crossing
 pub mod EndsLemmas
 pub mod JobLemmas
+pub mod MarkLemmas
 pub mod NodeLemmas
 pub mod PartsLemmas
 pub mod PathLemmas

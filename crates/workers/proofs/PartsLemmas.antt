@@ -9,7 +9,7 @@ use Rattle.workers.proofs.JobLemmas.{each_is, each_push}
 abbrev pub IsPartAt : Job → ℕ → PartValue → Type 0
 IsPartAt j p part = part ≡ part_of j p
 
--- the same, where there was memory for it
+-- that part, if there was memory for it
 abbrev pub IsMadeAt : {E : Type 0} → Job → ℕ → Result PartValue E → Type 0
 IsMadeAt j p part = IfOk part (IsPartAt j p)
 

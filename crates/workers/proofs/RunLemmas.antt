@@ -1,18 +1,23 @@
 -- What a run's refusals say, step by step.
 use Rattle.std.proofs.Common.{◌≡◌, ◌≢◌, ◌∙◌, ℕ, List, ap, nat_lt, refl, subst, sym}
-use Rattle.std.specs.Prelude.{Option, None, Some, Result, Ok, Err, IfOk, IfErr, IfSome, IsOk, OnOk, ◌||◌}
+use Rattle.std.specs.Prelude.{Option, None, Some, Result, Ok, Err, IfOk, IfErr, IsOk, OnOk, ◌||◌}
 use Rattle.std.specs.Io.KnownBytes.{Appends}
 use Rattle.std.specs.Borrow.{Bor}
 use Rattle.ball_model.specs.Graph.{Graph}
-use Rattle.ball_model.specs.Input.{IsPlain, Network}
+use Rattle.ball_model.specs.Input.{Network}
 use Rattle.ball_model.specs.PlanValue.{PlanValue, mixing_of, plan_within}
 use Rattle.ball_model.specs.Report.{report_of}
 use Rattle.ball_model.specs.RunText.{AreRead, HasPlan, IsReport, IsReportOf, Numbers, Settings, list_in, network_in, plan_asked, plan_over, run_limits}
 use Rattle.ball_model.specs.declared.plan.PlanError.{PlanError}
 use Rattle.ball_model.proofs.BoolLemmas.{by_cases}
-use Rattle.edgelist.specs.Counting.{IsListRefusal, RefusesList}
+use Rattle.edgelist.specs.Job as edges
+use Rattle.edgelist.specs.Job.{numbers_of, settings_of}
 use Rattle.edgelist.specs.Records.{ForPlain}
-use Rattle.edgelist.specs.declared.counting.CountedError.{CountedError}
+use Rattle.edgelist.specs.declared.counting.CountedError.TheVariants as counted
+use Rattle.edgelist.specs.declared.job.JobOptions.{JobOptions}
+use Rattle.edgelist.specs.declared.job.NetworkError.{NetworkError}
+use Rattle.edgelist.specs.declared.job.NetworkError.TheVariants as unread
+use Rattle.edgelist.specs.declared.read.EdgeError.{EdgeError}
 use Rattle.workers.specs.declared.ends.JobError.{JobError}
 use Rattle.workers.specs.declared.ends.JobError.TheVariants as job
 use Rattle.workers.specs.declared.options.RunOptions.{RunOptions}
@@ -20,11 +25,11 @@ use Rattle.workers.specs.declared.bytes.RunError.{RunError}
 use Rattle.workers.specs.declared.bytes.RunError.TheVariants as fault
 use Rattle.ball_model.specs.Job.{job_of}
 use Rattle.workers.specs.Job.{IsFirstFault}
-use Rattle.workers.specs.Options.{run_numbers_of, run_settings_of}
-use Rattle.workers.specs.Run.{AddsReport, AnswersNetwork, HasFirstFault, IsRunFault, IsRunRefusal, RefusesEdges, RefusesNetwork, RefusesRead, WherePlain, run_counted_by, job_fault}
+use Rattle.workers.specs.Options.{run_job}
+use Rattle.workers.specs.Run.{AddsReport, AnswersNetwork, HasFirstFault, IsFaultIn, IsRunFault, IsRunRefusal, RefusesEdges, RefusesNetwork, WherePlain, job_fault, network_fault}
 
 -- what holds of plain bytes, and what follows from it
-pub where_weaker : (o : RunOptions) (told : Option (List ℕ)) (counted : Option (Bor (List ℕ))) (P Q : Settings → List ℕ → Option (List ℕ) → Type 0) → ((input : List ℕ) → P (run_settings_of o) input (list_in counted) → Q (run_settings_of o) input (list_in counted)) → WherePlain o told counted P → WherePlain o told counted Q
+pub where_weaker : (o : RunOptions) (told : Option (List ℕ)) (counted : Option (Bor (List ℕ))) (P Q : Settings → List ℕ → Option (List ℕ) → Type 0) → ((input : List ℕ) → P (settings_of (run_job o)) input (list_in counted) → Q (settings_of (run_job o)) input (list_in counted)) → WherePlain o told counted P → WherePlain o told counted Q
 where_weaker o None counted P Q f h = tt
 where_weaker o (Some input) counted P Q f h = λ plain. f input (h plain)
 
@@ -32,23 +37,60 @@ pub where_always : (o : RunOptions) (told : Option (List ℕ)) (counted : Option
 where_always o None counted Q f = tt
 where_always o (Some input) counted Q f = λ plain. f _ _ _
 
--- what is refused of a list, once there is a network
-pub refuses_list : (o : RunOptions) (told : Option (List ℕ)) (counted : Option (Bor (List ℕ))) (all : Network) (e : CountedError) → ForPlain told (λ text. network_in (run_settings_of o) text ≡ Ok all) →
-    (IfSome (list_in counted) IsPlain → RefusesList (run_counted_by o all counted) e) → WherePlain o told counted (λ s input list. IsListRefusal s input list e)
-refuses_list o None counted all e read refused = tt
-refuses_list o (Some input) counted all e read refused = λ plain. record { all = all; read = read input refl plain.0; refused = refused plain.1 }
+-- what holds of plain bytes under the job's settings holds under the run's
+pub where_job : (o : RunOptions) (asked : JobOptions) (told : Option (List ℕ)) (counted : Option (Bor (List ℕ))) (P : Settings → List ℕ → Option (List ℕ) → Type 0) → asked ≡ run_job o → edges.WherePlain told counted (λ input list. P (settings_of asked) input list) → WherePlain o told counted P
+where_job o asked told counted P is h = subst (λ (a : JobOptions). edges.WherePlain told counted (λ input list. P (settings_of a) input list)) is h
+
+pub plain_job : (o : RunOptions) (asked : JobOptions) (told : Option (List ℕ)) (P : Settings → List ℕ → Type 0) → asked ≡ run_job o → ForPlain told (λ input. P (settings_of asked) input) → ForPlain told (λ input. P (settings_of (run_job o)) input)
+plain_job o asked told P is h = subst (λ (a : JobOptions). ForPlain told (λ input. P (settings_of a) input)) is h
+
+pub plan_job : (o : RunOptions) (asked : JobOptions) (g : Graph) (r : Result PlanValue PlanError) → asked ≡ run_job o → r ≡ plan_asked (numbers_of asked) g → r ≡ plan_asked (numbers_of (run_job o)) g
+plan_job o asked g r is h = subst (λ (a : JobOptions). r ≡ plan_asked (numbers_of a) g) is h
 
 -- what is refused before there is a network
-pub refuses_read : (s : Settings) (input : List ℕ) (list : Option (List ℕ)) (e : RunError) → RefusesRead s input list e → IsRunRefusal s input list e
-refuses_read s input list fault.Options h = tt
-refuses_read s input list (fault.Edges e) h = h
-refuses_read s input list (fault.Counted e) h = h
-refuses_read s input list (fault.Plan e) h = absurd h
-refuses_read s input list (fault.PartitionLost p) h = absurd h
-refuses_read s input list fault.BookFull h = absurd h
-refuses_read s input list fault.Memory h = absurd h
-refuses_read s input list (fault.Starved node r q) h = absurd h
-refuses_read s input list fault.Write h = absurd h
+pub refuses_read : (s : Settings) (input : List ℕ) (list : Option (List ℕ)) (e : NetworkError) → edges.RefusesRead s input list e → IsRunRefusal s input list (network_fault e)
+refuses_read s input list (unread.Edges e) h = h
+refuses_read s input list (unread.Counted e) h = h
+
+pub refuses_edges : (s : Settings) (input : List ℕ) (e : NetworkError) → edges.RefusesEdges s input e → RefusesEdges s input (network_fault e)
+refuses_edges s input (unread.Edges e) h = h
+refuses_edges s input (unread.Counted e) h = h
+
+pub never_written : (e : NetworkError) → network_fault e ≢ fault.Write
+never_written (unread.Edges e) is = absurd (cc)
+never_written (unread.Counted e) is = absurd (cc)
+
+pub no_fault : (o : RunOptions) (e : NetworkError) → IsFaultIn o (network_fault e)
+no_fault o (unread.Edges e) = tt
+no_fault o (unread.Counted e) = tt
+
+-- a refused edge list is told as it is
+told_unread : RunError → NetworkError
+told_unread fault.Options = unread.Counted counted.Memory
+told_unread (fault.Edges e) = unread.Edges e
+told_unread (fault.Counted e) = unread.Counted e
+told_unread (fault.Plan e) = unread.Counted counted.Memory
+told_unread (fault.PartitionLost p) = unread.Counted counted.Memory
+told_unread fault.BookFull = unread.Counted counted.Memory
+told_unread fault.Memory = unread.Counted counted.Memory
+told_unread (fault.Starved node r q) = unread.Counted counted.Memory
+told_unread fault.Write = unread.Counted counted.Memory
+
+unread_back : (e : NetworkError) → told_unread (network_fault e) ≡ e
+unfolding told_unread
+unread_back (unread.Edges e) = refl
+unread_back (unread.Counted e) = refl
+
+pub edges_back : {T U : Type 0} (e : NetworkError) (x : EdgeError) → ◌≡◌ {A = Result T RunError} (Err (network_fault e)) (Err (fault.Edges x)) → ◌≡◌ {A = Result U NetworkError} (Err e) (Err (unread.Edges x))
+unfolding told_unread
+edges_back e x is =
+    let same : network_fault e ≡ fault.Edges x = cc is in
+    ap Err (sym (unread_back e) ∙ ap told_unread same)
+
+pub edges_told : {T U : Type 0} (e : NetworkError) (x : EdgeError) → ◌≡◌ {A = Result U NetworkError} (Err e) (Err (unread.Edges x)) → ◌≡◌ {A = Result T RunError} (Err (network_fault e)) (Err (fault.Edges x))
+edges_told e x is =
+    let same : e ≡ unread.Edges x = cc is in
+    ap (λ (f : NetworkError). Err (network_fault f)) same
 
 -- what is refused over a network that was read
 pub refuses_network : (s : Settings) (input : List ℕ) (list : Option (List ℕ)) (network : Network) (e : RunError) → AreRead s input list network → RefusesNetwork s.numbers network e → IsRunRefusal s input list e
@@ -91,10 +133,7 @@ pub listed_edges : {T : Type 0} (s : Settings) (told : Option (List ℕ)) (r : R
 listed_edges s told (Ok x) ok input is plain = ok input is plain
 listed_edges s told (Err e) ok input is plain = tt
 
--- where there is a network
-pub read_edges : (s : Settings) (told : Option (List ℕ)) (all : Network) → ForPlain told (λ input. network_in s input ≡ Ok all) → ForPlain told (λ input. IsOk (network_in s input))
-read_edges s told all read input is plain = rw (read input is plain) refl
-
+-- what was read, where the report is not written
 pub unwritten_edges : {T : Type 0} (s : Settings) (told : Option (List ℕ)) (r : Result T RunError) → ForPlain told (λ input. IsOk (network_in s input)) → IfErr r (λ e. e ≡ fault.Write) → ForPlain told (λ input. IfErr r (RefusesEdges s input))
 unwritten_edges s told (Ok x) ok h input is plain = tt
 unwritten_edges s told (Err e) ok h input is plain = subst (RefusesEdges s input) (sym h) (ok input is plain)
@@ -110,7 +149,7 @@ wrote o told counted contents old new text (Err e) report h = tt
 
 pub unwritten : {T : Type 0} (o : RunOptions) (told : Option (List ℕ)) (counted : Option (Bor (List ℕ))) (text : List ℕ) (r : Result T RunError) → WherePlain o told counted (λ s input list. IsReport s input list text) → IfErr r (λ e. e ≡ fault.Write) → WherePlain o told counted (λ s input list. IfErr r (IsRunRefusal s input list))
 unwritten o told counted text (Ok x) report h = where_always o told counted (λ s input list. IfErr {T = ℕ} (Ok 0) (IsRunRefusal s input list)) (λ s input list. tt)
-unwritten o told counted text (Err e) report h = where_weaker o told counted (λ s input list. IsReport s input list text) (λ s input list. IsRunRefusal s input list e) (λ input is. subst (λ (x : RunError). IsRunRefusal (run_settings_of o) input (list_in counted) x) (sym h) (record { network = is.network; read = is.read; planned = is.report.planned })) report
+unwritten o told counted text (Err e) report h = where_weaker o told counted (λ s input list. IsReport s input list text) (λ s input list. IsRunRefusal s input list e) (λ input is. subst (λ (x : RunError). IsRunRefusal (settings_of (run_job o)) input (list_in counted) x) (sym h) (record { network = is.network; read = is.read; planned = is.report.planned })) report
 
 -- the plan that is asked for, where there is one
 plan_or_fault : (most : ℕ) (p : PlanValue) → IfOk (plan_within most p) (λ q. plan_within most p ≡ Ok p)
@@ -186,25 +225,20 @@ pub ok_first : {T : Type 0} (W : JobError → Type 0) (x : T) (f : JobError) →
 ok_first W x f other is = absurd (cc)
 
 -- of a network that was read
-pub job_first : {T : Type 0} (o : RunOptions) (network : Network) (plan : PlanValue) (e : JobError) → plan_asked (run_numbers_of o) network.graph ≡ Ok plan → (e ≢ job.Memory → IsFirstFault (job_of network.graph plan) o e) →
+pub job_first : {T : Type 0} (o : RunOptions) (network : Network) (plan : PlanValue) (e : JobError) → plan_asked (numbers_of (run_job o)) network.graph ≡ Ok plan → (e ≢ job.Memory → IsFirstFault (job_of network.graph plan) o e) →
     (f : JobError) → f ≢ job.Memory → ◌≡◌ {A = Result T RunError} (Err (job_fault e)) (Err (job_fault f)) → HasFirstFault o network f
 job_first o network plan e asked first f other is =
     let same : e ≡ f = sym (told_back e) ∙ (ap told_fault (same_error (job_fault e) (job_fault f) is) ∙ told_back f) in
     record { plan = plan; planned = asked; first = subst (IsFirstFault (job_of network.graph plan) o) same (first (λ m. other (sym same ∙ m))) }
 
 -- where the network is not read
-not_read : (s : Settings) (input : List ℕ) (list : Option (List ℕ)) (f : JobError) → RefusesRead s input list (job_fault f) → ⊥
-not_read s input list (job.PartitionLost p) h = h
-not_read s input list job.BookFull h = h
-not_read s input list job.Memory h = h
-not_read s input list (job.Starved node r q) h = h
+unread_told : (e : NetworkError) → told_fault (network_fault e) ≡ job.Memory
+unfolding told_fault
+unread_told (unread.Edges e) = refl
+unread_told (unread.Counted e) = refl
 
-pub read_first : {T : Type 0} (o : RunOptions) (told : Option (List ℕ)) (counted : Option (Bor (List ℕ))) (e : RunError) → WherePlain o told counted (λ s input list. RefusesRead s input list e) →
-    (f : JobError) → f ≢ job.Memory → ◌≡◌ {A = Result T RunError} (Err e) (Err (job_fault f)) → WherePlain o told counted (λ s input list. IsRunFault o s input list f)
-read_first o told counted e refused f other is =
-    where_weaker o told counted (λ s input list. RefusesRead s input list e) (λ s input list. IsRunFault o s input list f)
-    (λ input h. absurd (not_read (run_settings_of o) input (list_in counted) f (subst (RefusesRead (run_settings_of o) input (list_in counted)) (same_error e (job_fault f) is) h)))
-    refused
+pub read_first : {T : Type 0} (W : JobError → Type 0) (e : NetworkError) (f : JobError) → f ≢ job.Memory → ◌≡◌ {A = Result T RunError} (Err (network_fault e)) (Err (job_fault f)) → W f
+read_first W e f other is = absurd (none_told (network_fault e) f (unread_told e) other (same_error (network_fault e) (job_fault f) is))
 
 pub network_first : (o : RunOptions) (told : Option (List ℕ)) (counted : Option (Bor (List ℕ))) (network : Network) (f : JobError) → WherePlain o told counted (λ s input list. AreRead s input list network) → HasFirstFault o network f →
     WherePlain o told counted (λ s input list. IsRunFault o s input list f)

@@ -59,7 +59,7 @@ pub record AreParts (j : Job) (parts : List PartValue) : Type 0 where
   pub each : (p : ℕ) (d : PartValue) → p < j.plan.parts →
       slice_index_or parts p d ≡ part_of j p
 
--- the same, where there was memory for each
+-- the part of each partition, if there was memory for each
 pub record AreMade {E : Type 0} (j : Job) (parts : List (Result PartValue E)) : Type 0 where
   pub count : length parts ≡ j.plan.parts
   pub each : (p : ℕ) (d : Result PartValue E) → p < j.plan.parts →

@@ -1,5 +1,6 @@
 pub mod Ends
 pub mod Job
+pub mod Marks
 pub mod Node
 pub mod Options
 pub mod Run

@@ -3,20 +3,23 @@ use Rattle.std.specs.Prelude.{ℕ, Bool, true, ◌&&◌, ◌==◌, nat_le, nat_l
 use Rattle.ball_model.specs.declared.names.NodeId.{NodeId}
 use Rattle.ball_model.specs.declared.plan.TheConstants.{MOST_REPLICAS}
 use Rattle.ball_model.specs.PlanValue.{greatest_limit}
-use Rattle.ball_model.specs.RunText.{Numbers, Settings}
 use Rattle.board.specs.declared.board.TheConstants.{LEAST_ENTRIES, MOST_ENTRIES}
-use Rattle.edgelist.specs.Planning.{is_corrected, numbers_with}
-use Rattle.edgelist.specs.Reading.{byte_of}
+use Rattle.edgelist.specs.declared.job.JobOptions.{JobOptions}
 use Rattle.workers.specs.declared.node.NodeOrders.{NodeOrders}
 use Rattle.workers.specs.declared.options.RunOptions.{RunOptions}
 
-abbrev pub run_numbers_of : RunOptions → Numbers
-run_numbers_of o =
-    record (numbers_with (is_corrected o.estimate) o.log2m o.seed o.parts o.limit)
-    { large = o.large }
-
-abbrev pub run_settings_of : RunOptions → Settings
-run_settings_of o = record { numbers = run_numbers_of o; delimiter = byte_of o.delimiter }
+-- what is asked of the job that is run
+abbrev pub run_job : RunOptions → JobOptions
+run_job o = record {
+  log2m = o.log2m;
+  seed = o.seed;
+  parts = o.parts;
+  limit = o.limit;
+  estimate = o.estimate;
+  delimiter = o.delimiter;
+  large = o.large;
+  threads = o.threads;
+}
 
 -- a run of so many partitions and replicas has the node
 abbrev pub is_named : ℕ → ℕ → NodeId → Bool

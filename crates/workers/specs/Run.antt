@@ -3,42 +3,44 @@ use Rattle.std.specs.Prelude.{◌≡◌, ⊤, ℕ, false, List, Option, Result, 
 use Rattle.std.specs.Prelude.{MatchResult}
 use Rattle.std.specs.Borrow.{Bor}
 use Rattle.ball_model.specs.Input.{Network}
-use Rattle.ball_model.specs.Counting.{CountedRefusal}
 use Rattle.ball_model.specs.Job.{job_of}
 use Rattle.ball_model.specs.PlanValue.{PlanValue}
 use Rattle.ball_model.specs.RunText.{AppendsReport, ArePlain, AreRead, HasPlan, IsPlanFault, IsReportOf}
-use Rattle.ball_model.specs.RunText.{Numbers, Settings, counted_in, list_in, network_in, plan_asked}
+use Rattle.ball_model.specs.RunText.{Numbers, Settings, list_in, network_in, plan_asked}
 use Rattle.edgelist.specs.Reading.{Refuses}
 use Rattle.edgelist.specs.Counting.{IsListRefusal}
+use Rattle.edgelist.specs.Job.{numbers_of, settings_of}
+use Rattle.edgelist.specs.declared.job.NetworkError.{NetworkError}
+use Rattle.edgelist.specs.declared.job.NetworkError.TheVariants as unread
 use Rattle.workers.specs.declared.ends.JobError.{JobError}
 use Rattle.workers.specs.declared.ends.JobError.TheVariants as job
 use Rattle.workers.specs.declared.options.RunOptions.{RunOptions}
 use Rattle.workers.specs.declared.bytes.RunError.{RunError}
 use Rattle.workers.specs.declared.bytes.RunError.TheVariants as fault
 use Rattle.workers.specs.Job.{IsFaultOf, IsFirstFault}
-use Rattle.workers.specs.Options.{are_in_limits, run_numbers_of, run_settings_of}
+use Rattle.workers.specs.Options.{are_in_limits, run_job}
 
 -- where a reader tells its bytes, and these and the list are plain, this holds of what is asked
 abbrev pub WherePlain : RunOptions → Option (List ℕ) → Option (Bor (List ℕ)) →
     (Settings → List ℕ → Option (List ℕ) → Type 0) → Type 0
 WherePlain o told counted holds = IfSome told (λ input.
-    ArePlain input (list_in counted) → holds (run_settings_of o) input (list_in counted))
+    ArePlain input (list_in counted) → holds (settings_of (run_job o)) input (list_in counted))
 
 -- a writer of these contents is given the report of what is asked
 abbrev pub AddsReport : {W : Type 0} → (W → Option (List ℕ)) → W → W →
     Settings → List ℕ → Option (List ℕ) → Type 0
 AddsReport contents old new s input list = AppendsReport s input list (contents old) (contents new)
 
--- what a list of counted vertices says of a network, under the options
-abbrev pub run_counted_by : RunOptions → Network → Option (Bor (List ℕ)) →
-    Result Network CountedRefusal
-run_counted_by o network counted = counted_in (run_settings_of o) network (list_in counted)
-
 -- both say a network, over which there is such a plan
 pub record IsRunPlanned (s : Settings) (input : List ℕ) (list : Option (List ℕ)) : Type 0 where
   pub network : Network
   pub read : AreRead s input list network
   pub planned : HasPlan s.numbers network
+
+-- the run's error for a refused network
+abbrev pub network_fault : NetworkError → RunError
+network_fault (unread.Edges e) = fault.Edges e
+network_fault (unread.Counted e) = fault.Counted e
 
 -- the run's error for a fault of its nodes
 abbrev pub job_fault : JobError → RunError
@@ -50,7 +52,7 @@ job_fault (job.Starved node s q) = fault.Starved node s q
 -- over a network there is such a plan, and the fault is the first of the ends of all nodes
 pub record HasFirstFault (o : RunOptions) (network : Network) (e : JobError) : Type 0 where
   pub plan : PlanValue
-  pub planned : plan_asked (run_numbers_of o) network.graph ≡ Ok plan
+  pub planned : plan_asked (numbers_of (run_job o)) network.graph ≡ Ok plan
   pub first : IsFirstFault (job_of network.graph plan) o e
 
 -- and both say that network
@@ -95,18 +97,6 @@ RefusesEdges s input fault.BookFull = IsOk (network_in s input)
 RefusesEdges s input fault.Memory = IsOk (network_in s input)
 RefusesEdges s input (fault.Starved node r q) = IsOk (network_in s input)
 RefusesEdges s input fault.Write = IsOk (network_in s input)
-
--- what a refusal says of the network, as far as it was read
-abbrev pub RefusesRead : Settings → List ℕ → Option (List ℕ) → RunError → Type 0
-RefusesRead s input list fault.Options = ⊥
-RefusesRead s input list (fault.Edges e) = Refuses (network_in s input) e
-RefusesRead s input list (fault.Counted e) = IsListRefusal s input list e
-RefusesRead s input list (fault.Plan e) = ⊥
-RefusesRead s input list (fault.PartitionLost p) = ⊥
-RefusesRead s input list fault.BookFull = ⊥
-RefusesRead s input list fault.Memory = ⊥
-RefusesRead s input list (fault.Starved node r q) = ⊥
-RefusesRead s input list fault.Write = ⊥
 
 -- what a refusal says of a network that was read
 abbrev pub RefusesNetwork : Numbers → Network → RunError → Type 0

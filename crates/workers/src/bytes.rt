@@ -1,38 +1,31 @@
 //! A run from bytes to bytes: a thread for each node, and more of them in large supersteps and for the figures.
 
-ghost use Rattle.std.specs.Prelude.{◌≡◌, ◌≢◌, ◌<◌, Ok, Err, true, false, OnOk, OnErr, IfOk, IfErr};
-ghost use Rattle.std.specs.Prelude.{IfSome, IsOk, length};
+ghost use Rattle.std.specs.Prelude.{◌≡◌, ◌≢◌, Err, true, false, OnOk, OnErr, IfOk, IfErr, IsOk};
 ghost use Rattle.std.specs.Io.KnownBytes.{Appends, Keeps};
 ghost use Rattle.ball_model.specs.Job.{IsJob, job_of};
-ghost use Rattle.ball_model.specs.Input.{IsPlain, records};
 ghost use Rattle.ball_model.specs.PlanValue.{mixing_of};
 ghost use Rattle.ball_model.specs.Report.{report_of};
-ghost use Rattle.ball_model.specs.RunText.{AreRead, IsReport, list_in, network_in, plan_asked};
-ghost use Rattle.ball_model.specs.Streams.{Rises};
-ghost use Rattle.edgelist.specs.Counting.{RefusesList};
-ghost use Rattle.edgelist.specs.Planning.{signed};
-ghost use Rattle.edgelist.specs.Reading.{CountsOne, Refuses, byte_of};
+ghost use Rattle.ball_model.specs.RunText.{IsReport, network_in};
+ghost use Rattle.ball_model.specs.Streams.{Rises, RisesByOne};
+ghost use Rattle.edgelist.specs.Job.{numbers_of, settings_of};
+ghost use Rattle.edgelist.specs.Reading.{CountsOne};
 ghost use Rattle.edgelist.specs.Records.{ForPlain};
 ghost use Rattle.workers.specs.declared.ends.JobError.{JobError as NodesFault};
 ghost use Rattle.workers.specs.Job.{AreDone, AreParts, IsFaultOf, IsFirstFault};
-ghost use Rattle.workers.specs.Options.{are_in_limits, run_numbers_of, run_settings_of};
+ghost use Rattle.workers.specs.Options.{are_in_limits, run_job};
 ghost use Rattle.workers.specs.Run.{AddsReport, AnswersNetwork, HasFirstFault, IsFaultIn};
-ghost use Rattle.workers.specs.Run.{IsRunFault, IsRunRefusal, RefusesEdges, RefusesRead};
-ghost use Rattle.workers.specs.Run.{WherePlain, job_fault, run_counted_by};
+ghost use Rattle.workers.specs.Run.{IsRunFault, IsRunRefusal, RefusesEdges, WherePlain, job_fault};
 
 use crate::ends::JobError;
-use crate::gate::Gate;
+use crate::gate::{Gate, UnwatchedGate};
 use crate::job::run_job;
 use crate::options::RunOptions;
 use crate::planned::{Planned, plan_parts};
 use ball_model::{CountedRead, CountedWrite, CountingWriter, NodeId, Plan, PlanError};
-use edgelist::{
-    CountedError, EdgeError, EdgeList, Graph, LARGE_LIMITS, LIMITS, read_edge_list,
-    read_large_edge_list,
-};
+use edgelist::{CountedError, EdgeError, Graph, NetworkError, Watch};
 use replica::Replica;
 use report::{Pages, write_report_by};
-use std::alloc::{AllocError, AllocGlobal, Global};
+use std::alloc::{AllocError, AllocGlobal};
 use std::hash::RandomState;
 use std::sync::Wait;
 use std::thread::Threads;
@@ -76,23 +69,16 @@ pub enum RunError {
     Write,
 }
 
-impl From<EdgeError> for RunError {
-    ghost use Rattle.workers.specs.declared.bytes.RunError.TheVariants.{Edges};
+impl From<NetworkError> for RunError {
+    ghost use Rattle.workers.specs.Run.{network_fault};
 
-    ghost from_gives = { λ fault e. e ≡ Edges fault };
+    ghost from_gives = { λ fault e. e ≡ network_fault fault };
 
-    fn from(fault: EdgeError) -> RunError {
-        RunError::Edges(fault)
-    }
-}
-
-impl From<CountedError> for RunError {
-    ghost use Rattle.workers.specs.declared.bytes.RunError.TheVariants.{Counted};
-
-    ghost from_gives = { λ fault e. e ≡ Counted fault };
-
-    fn from(fault: CountedError) -> RunError {
-        RunError::Counted(fault)
+    fn from(fault: NetworkError) -> RunError {
+        match fault {
+            NetworkError::Edges(fault) => RunError::Edges(fault),
+            NetworkError::Counted(fault) => RunError::Counted(fault),
+        }
     }
 }
 
@@ -139,101 +125,6 @@ impl From<JobError> for RunError {
     }
 }
 
-// Counts only the vertices of a list, where there is one.
-fn count_listed(
-    alloc: Global,
-    graph: &mut Graph,
-    counted: Option<&[u8]>,
-    options: &RunOptions,
-) -> Result<(), CountedError>
-    ensures ok { IfSome (list_in counted.entry) IsPlain → OnOk result (
-        run_counted_by options.now graph.old counted.entry ≡ Ok graph.new) }
-    ensures refused { IfSome (list_in counted.entry) IsPlain → IfErr result (
-        RefusesList (run_counted_by options.now graph.old counted.entry)) }
-{
-    if let Some(list) = counted {
-        graph.count_only(alloc, options.delimiter, list)?;
-    }
-    Ok(())
-}
-
-// The graph that an edge list says, and how many records it has; a large one only where that is asked for.
-fn read_list<R: CountedRead>(
-    alloc: Global,
-    state: RandomState,
-    reader: &mut R,
-    options: &RunOptions,
-) -> Result<EdgeList, EdgeError>
-    ensures ok { ForPlain (R.remaining reader.old) (λ text.
-        IfOk result (λ read. network_in (run_settings_of options.now) text ≡ Ok read.graph)) }
-    ensures count { ForPlain (R.remaining reader.old) (λ text. IfOk result (λ read.
-        read.records ≡ length (records (byte_of options.now.delimiter) text))) }
-    ensures refused { ForPlain (R.remaining reader.old) (λ text.
-        IfErr result (Refuses (network_in (run_settings_of options.now) text))) }
-    ensures read { result ≡ Err EdgeError.Read →
-        R.failed_calls reader.old < R.failed_calls reader.new }
-    ensures failed { CountsOne (R.failed_calls reader.old) (R.failed_calls reader.new) →
-        result ≡ Err EdgeError.Read }
-{
-    if options.large {
-        return read_large_edge_list(alloc, state, reader, options.delimiter, LARGE_LIMITS);
-    }
-    read_edge_list(alloc, state, reader, options.delimiter, LIMITS)
-}
-
-// The graph that an edge list and a list of counted vertices say, and how many records the edge list has.
-fn read_network<T: AllocGlobal, R: CountedRead>(
-    rt: &T,
-    state: RandomState,
-    reader: &mut R,
-    counted: Option<&[u8]>,
-    options: &RunOptions,
-) -> Result<EdgeList, RunError>
-    ensures ok { WherePlain options.now (R.remaining reader.old) counted.entry
-        (λ s input list. IfOk result (λ read. AreRead s input list read.graph)) }
-    ensures count { WherePlain options.now (R.remaining reader.old) counted.entry
-        (λ s input list. IfOk result (λ read. read.records ≡ length (records s.delimiter input))) }
-    ensures refused { WherePlain options.now (R.remaining reader.old) counted.entry
-        (λ s input list. IfErr result (RefusesRead s input list)) }
-    ensures edges { ForPlain (R.remaining reader.old) (λ input.
-        OnOk result (IsOk (network_in (run_settings_of options.now) input))) }
-    ensures of_edges { ForPlain (R.remaining reader.old) (λ input.
-        IfErr result (RefusesEdges (run_settings_of options.now) input)) }
-    ensures kind { IfErr result (λ e. e ≢ RunError.Write) }
-    ensures read { result ≡ Err (RunError.Edges EdgeError.Read) →
-        Rises (R.failed_calls reader.old) (R.failed_calls reader.new) }
-    ensures failed { CountsOne (R.failed_calls reader.old) (R.failed_calls reader.new) →
-        result ≡ Err (RunError.Edges EdgeError.Read) }
-    ensures fault { IfErr result (IsFaultIn options.now) }
-{
-    let mut read = read_list(rt.alloc(), state, reader, options)?;
-    count_listed(rt.alloc(), &mut read.graph, counted, options)?;
-    Ok(read)
-}
-
-// The plan of a run over a graph but for its digest, or the first fault of the options.
-fn bare_plan_for(graph: &Graph, options: &RunOptions) -> Result<Plan, PlanError>
-    ensures ok { IfOk result (λ bare. Ok (signed graph.now.graph bare) ≡
-        plan_asked (run_numbers_of options.now) graph.now.graph) }
-    ensures refused { IfErr result (λ fault. Err fault ≡
-        plan_asked (run_numbers_of options.now) graph.now.graph) }
-    ensures job { IfOk result (λ bare. IsJob (job_of graph.now.graph
-        (signed graph.now.graph bare))) }
-    ensures parts { IfOk result (λ bare. bare.parts ≡ options.now.parts) }
-{
-    let RunOptions {
-        log2m,
-        seed,
-        parts,
-        limit,
-        ..
-    } = *options;
-    if options.large {
-        return graph.large_plan(options.estimate, log2m, seed, parts, limit);
-    }
-    graph.bare_plan(options.estimate, log2m, seed, parts, limit)
-}
-
 // The text of the report of replicas at the end of their run, by at most so many threads; by all processors where 0 are
 // asked for. The error is that memory was refused.
 fn replicas_text<T: AllocGlobal + Threads + Sync>(
@@ -256,7 +147,7 @@ fn replicas_text<T: AllocGlobal + Threads + Sync>(
 }
 
 // The text of the report of a graph under a plan.
-fn planned_text<T: AllocGlobal + Threads + Wait + Sync, G: Gate + Sync>(
+fn planned_text<T: AllocGlobal + Threads + Wait + Sync, G: Gate + Watch + Sync>(
     rt: &T,
     graph: &Graph,
     planned: Planned,
@@ -279,26 +170,27 @@ fn planned_text<T: AllocGlobal + Threads + Wait + Sync, G: Gate + Sync>(
 }
 
 // The text of the report of a graph.
-fn report_text<T: AllocGlobal + Threads + Wait + Sync, G: Gate + Sync>(
+fn report_text<T: AllocGlobal + Threads + Wait + Sync, G: Gate + Watch + Sync>(
     rt: &T,
     graph: &Graph,
     options: &RunOptions,
     gate: &G,
 ) -> Result<Pages, RunError>
     requires limits { are_in_limits options.now ≡ true }
-    ensures answer { AnswersNetwork (run_numbers_of options.now) graph.now result }
+    ensures answer { AnswersNetwork (numbers_of (run_job options.now)) graph.now result }
     ensures fault { IfErr result (IsFaultIn options.now) }
     ensures first { (f : NodesFault) → f ≢ JobError.Memory → result ≡ Err (job_fault f) →
         HasFirstFault options.now graph.now f }
 {
-    let bare = bare_plan_for(graph, options)?;
+    let job = options.job();
+    let bare = job.bare_plan(graph)?;
     let planned = plan_parts(rt, graph, &bare)?;
     let text = planned_text(rt, graph, planned, options, gate)?;
     Ok(text)
 }
 
 // The text of the report of what is read.
-fn read_text<T: AllocGlobal + Threads + Wait + Sync, R: CountedRead, G: Gate + Sync>(
+fn read_text<T: AllocGlobal + Threads + Wait + Sync, R: CountedRead, G: Gate + Watch + Sync>(
     rt: &T,
     state: RandomState,
     reader: &mut R,
@@ -312,9 +204,9 @@ fn read_text<T: AllocGlobal + Threads + Wait + Sync, R: CountedRead, G: Gate + S
     ensures refused { WherePlain options.now (R.remaining reader.old) counted.entry
         (λ s input list. IfErr result (IsRunRefusal s input list)) }
     ensures edges { ForPlain (R.remaining reader.old) (λ input.
-        OnOk result (IsOk (network_in (run_settings_of options.now) input))) }
+        OnOk result (IsOk (network_in (settings_of (run_job options.now)) input))) }
     ensures of_edges { ForPlain (R.remaining reader.old) (λ input.
-        IfErr result (RefusesEdges (run_settings_of options.now) input)) }
+        IfErr result (RefusesEdges (settings_of (run_job options.now)) input)) }
     ensures kind { IfErr result (λ e. e ≢ RunError.Write) }
     ensures read { result ≡ Err (RunError.Edges EdgeError.Read) →
         Rises (R.failed_calls reader.old) (R.failed_calls reader.new) }
@@ -328,7 +220,8 @@ fn read_text<T: AllocGlobal + Threads + Wait + Sync, R: CountedRead, G: Gate + S
     if !options.are_in_limits() {
         return Err(RunError::Options);
     }
-    let read = read_network(rt, state, reader, counted, options)?;
+    let job = options.job();
+    let read = job.read_network_by(rt, gate, state, reader, counted)?;
     gate.after_read(read.records, read.graph.vertices());
     report_text(rt, &read.graph, options, gate)
 }
@@ -337,7 +230,9 @@ fn read_text<T: AllocGlobal + Threads + Wait + Sync, R: CountedRead, G: Gate + S
 fn write_text<W: CountedWrite>(writer: &mut W, text: &Pages) -> Result<(), RunError>
     ensures done { OnOk result (Appends (W.contents writer.old) (W.contents writer.new) text.now) }
     ensures kind { IfErr result (λ e. e ≡ RunError.Write) }
-    ensures failed { OnErr result (Rises (W.failed_calls writer.old) (W.failed_calls writer.new)) }
+    ensures counted { OnOk result (W.failed_calls writer.new ≡ W.failed_calls writer.old) }
+    ensures failed { OnErr result (
+        RisesByOne (W.failed_calls writer.old) (W.failed_calls writer.new)) }
 {
     if text.write_to(writer) {
         Ok(())
@@ -350,11 +245,12 @@ fn write_text<W: CountedWrite>(writer: &mut W, text: &Pages) -> Result<(), RunEr
 /// vertices changed, it shares the work with others, so that together they use as many as the options say. So many make
 /// the figures, once these have ended.
 ///
-/// With a list of `counted` vertices only those are counted; the list is read after the edge list, and its lines are
-/// as there, one label in each. The report is built in memory and then written, so nothing is written unless the
-/// answer is Ok or `Write`. `Edges(Read)` is answered where a call of the reader failed and nowhere else, `Write` only
-/// where one of the writer did. What is said of the input holds for plain bytes: an LF after each CR. (No failed call is
-/// made again: that is written so, and no clause says it.)
+/// With a list of `counted` vertices only those are counted; the list is read after the edge list, and its lines are as
+/// there, one label in each. The report is built in memory and then written, so nothing is written unless the answer is
+/// Ok or `Write`. `Edges(Read)` is answered where a call of the reader failed (while failures can be counted) and
+/// nowhere else, `Write` only where one of the writer did. What is said of the input holds for plain bytes: an LF after
+/// each CR. (That no failed call of the reader is made again is written so, and no clause says it.)
+/// Several threads ask for some MiB beyond a record that is refused, and answer `Edges(Read)` if that fails.
 ///
 /// In this order: `Options`, before anything is read; `Edges`, `Counted` and `Plan`; where some partition has no node
 /// that reached the end `PartitionLost`, `BookFull`, `Memory` and `Starved`, the first that the nodes' ends give; then
@@ -381,15 +277,61 @@ pub fn run<T: AllocGlobal + Threads + Wait + Sync, R: CountedRead, W: CountedWri
     ensures refused { WherePlain options.now (R.remaining reader.old) counted.entry
         (λ s input list. IfErr result (IsRunRefusal s input list)) }
     ensures edges { ForPlain (R.remaining reader.old) (λ input.
-        OnOk result (IsOk (network_in (run_settings_of options.now) input))) }
+        OnOk result (IsOk (network_in (settings_of (run_job options.now)) input))) }
     ensures of_edges { ForPlain (R.remaining reader.old) (λ input.
-        IfErr result (RefusesEdges (run_settings_of options.now) input)) }
+        IfErr result (RefusesEdges (settings_of (run_job options.now)) input)) }
     ensures read { result ≡ Err (RunError.Edges EdgeError.Read) →
         Rises (R.failed_calls reader.old) (R.failed_calls reader.new) }
     ensures failed { CountsOne (R.failed_calls reader.old) (R.failed_calls reader.new) →
         result ≡ Err (RunError.Edges EdgeError.Read) }
     ensures write { result ≡ Err RunError.Write →
-        Rises (W.failed_calls writer.old) (W.failed_calls writer.new) }
+        RisesByOne (W.failed_calls writer.old) (W.failed_calls writer.new) }
+    ensures written { result ≢ Err RunError.Write →
+        W.failed_calls writer.new ≡ W.failed_calls writer.old }
+    ensures limits { are_in_limits options.now ≡ false → result ≡ Err RunError.Options }
+    ensures fault { IfErr result (IsFaultIn options.now) }
+    ensures first { (f : NodesFault) → f ≢ JobError.Memory → result ≡ Err (job_fault f) →
+        WherePlain options.now (R.remaining reader.old) counted.entry
+        (λ s input list. IsRunFault options.now s input list f) }
+    ensures untouched { IfErr result (λ e. e ≢ RunError.Write →
+        Keeps (W.contents writer.old) (W.contents writer.new)) }
+{
+    let gate = UnwatchedGate::new(gate);
+    run_watched(rt, state, reader, counted, writer, options, &gate)
+}
+
+/// Makes a run as [`run`] says, by a gate that is also told how it gets on: while several threads read the edge
+/// list and once it is read, once each node's first replica is made, and where a node has gone on.
+pub fn run_watched<
+    T: AllocGlobal + Threads + Wait + Sync,
+    R: CountedRead,
+    W: CountedWrite,
+    G: Gate + Watch + Sync,
+>(
+    rt: &T,
+    state: RandomState,
+    reader: &mut R,
+    counted: Option<&[u8]>,
+    writer: &mut W,
+    options: &RunOptions,
+    gate: &G,
+) -> Result<(), RunError>
+    ensures ok { OnOk result (WherePlain options.now (R.remaining reader.old) counted.entry
+        (AddsReport W.contents writer.old writer.new)) }
+    ensures refused { WherePlain options.now (R.remaining reader.old) counted.entry
+        (λ s input list. IfErr result (IsRunRefusal s input list)) }
+    ensures edges { ForPlain (R.remaining reader.old) (λ input.
+        OnOk result (IsOk (network_in (settings_of (run_job options.now)) input))) }
+    ensures of_edges { ForPlain (R.remaining reader.old) (λ input.
+        IfErr result (RefusesEdges (settings_of (run_job options.now)) input)) }
+    ensures read { result ≡ Err (RunError.Edges EdgeError.Read) →
+        Rises (R.failed_calls reader.old) (R.failed_calls reader.new) }
+    ensures failed { CountsOne (R.failed_calls reader.old) (R.failed_calls reader.new) →
+        result ≡ Err (RunError.Edges EdgeError.Read) }
+    ensures write { result ≡ Err RunError.Write →
+        RisesByOne (W.failed_calls writer.old) (W.failed_calls writer.new) }
+    ensures written { result ≢ Err RunError.Write →
+        W.failed_calls writer.new ≡ W.failed_calls writer.old }
     ensures limits { are_in_limits options.now ≡ false → result ≡ Err RunError.Options }
     ensures fault { IfErr result (IsFaultIn options.now) }
     ensures first { (f : NodesFault) → f ≢ JobError.Memory → result ≡ Err (job_fault f) →

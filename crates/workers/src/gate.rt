@@ -1,15 +1,18 @@
 //! What is called round each of a node's posts, and while it waits.
 
+ghost use Rattle.std.specs.Prelude.{◌≡◌};
+ghost use Rattle.workers.specs.Marks.{place_at};
+
 use crate::running::zeros;
 use ball_model::NodeId;
 use ball_model::plan::{MOST_PARTS, MOST_REPLICAS};
+use edgelist::Watch;
 use std::alloc::{AllocError, Global};
 use std::sync::atomic::{AtomicU32, Ordering};
 use std::thread;
 use std::time::{Clock, Duration};
 
-/// What a node calls once its replica is made, before and after each of its posts, in each idle turn, and where it has gone
-/// on; and what a run calls once its edge list is read. Nothing is asked of it.
+/// What a node calls before and after each of its posts, and in each idle turn. Nothing is asked of it.
 pub trait Gate {
     /// The node is about to post a batch of the superstep.
     fn before_post(&self, node: NodeId, superstep: u32);
@@ -26,16 +29,6 @@ pub trait Gate {
         self.idle(node);
         true
     }
-
-    /// The run has read its edge list, of so many records and vertices. As given, nothing is done.
-    fn after_read(&self, _records: u64, _vertices: u32) {}
-
-    /// The node's first replica is made, and stands at superstep 0. As given, nothing is done.
-    fn after_start(&self, _node: NodeId) {}
-
-    /// The node has gone on to the superstep, at which so many vertices of its partition changed. As given, nothing is
-    /// done.
-    fn after_close(&self, _node: NodeId, _superstep: u32, _changed: u32) {}
 }
 
 /// A gate that does nothing, save that an idle turn yields the thread.
@@ -52,14 +45,44 @@ impl Gate for OpenGate {
     }
 }
 
+/// A gate that watches nothing: as a [`Gate`] it is the one inside, and as a [`Watch`] it does nothing.
+#[derive(Clone, Copy, Debug)]
+pub struct UnwatchedGate<'a, G> {
+    gate: &'a G,
+}
+
+impl<'a, G: Gate> UnwatchedGate<'a, G> {
+    /// The gate inside, which is not told how the run gets on.
+    pub fn new(gate: &'a G) -> UnwatchedGate<'a, G> {
+        UnwatchedGate { gate }
+    }
+}
+
+impl<'a, G: Gate> Gate for UnwatchedGate<'a, G> {
+    fn before_post(&self, node: NodeId, superstep: u32) {
+        self.gate.before_post(node, superstep);
+    }
+
+    fn after_post(&self, node: NodeId, superstep: u32) {
+        self.gate.after_post(node, superstep);
+    }
+
+    fn idle(&self, node: NodeId) {
+        self.gate.idle(node);
+    }
+
+    fn wait_for(&self, node: NodeId, source: u16) -> bool {
+        self.gate.wait_for(node, source)
+    }
+}
+
+impl<'a, G> Watch for UnwatchedGate<'a, G> {}
+
 /// How many idle turns of a node yield its thread, before it sleeps.
 const YIELDS: u32 = 64;
 
-/// How many replicas a partition has at most.
-const REPLICAS: usize = MOST_REPLICAS as usize;
-
 /// How many nodes a run has at most.
-const NODES: usize = MOST_PARTS as usize * REPLICAS;
+const NODES: usize = MOST_PARTS as usize * MOST_REPLICAS as usize;
 
 /// How long a node sleeps at most, in microseconds.
 const LONGEST: u64 = 1000;
@@ -101,9 +124,11 @@ impl<'a, C: Clock> Gate for SleepingGate<'a, C> {
     }
 }
 
-// The place of a node among all that a run may have.
-fn place_of(node: NodeId) -> usize {
-    usize::from(node.part) * REPLICAS + usize::from(node.replica)
+/// The place of a node among all that a run may have.
+pub fn place_of(node: NodeId) -> usize
+    ensures { result ≡ place_at node.part node.replica }
+{
+    usize::from(node.part) * usize::from(MOST_REPLICAS) + usize::from(node.replica)
 }
 
 // Lets some time pass after so many idle turns.

@@ -39,7 +39,7 @@ impl IndexedPart {
         Ok(IndexedPart { part, targets })
     }
 
-    /// The same of a plan with another job digest.
+    /// The part and its index under a plan with this job digest.
     pub(crate) fn with_job(self, job: [u8; 32]) -> IndexedPart
         ensures { result ≡ record self { plan = record self.plan { job = job } } }
     {
@@ -50,7 +50,7 @@ impl IndexedPart {
         }
     }
 
-    /// The same, to be shared by the replicas of the partition.
+    /// The part, to be shared by the replicas of its partition, and its index.
     pub(crate) fn shared(self, alloc: Global) -> Result<ReadyPart, AllocError>
         ensures { IfOk result (λ ready. ready ≡ self) }
     {
@@ -103,7 +103,7 @@ impl ReadyPart {
         &self.part
     }
 
-    /// The same for another replica. The index goes with the first that is handed out; the others make theirs.
+    /// The part for another replica. The index goes with the first that is handed out; the others make theirs.
     pub(crate) fn hand_out(&mut self, alloc: Global) -> Result<ReadyPart, AllocError>
         ensures same { self.new ≡ self.old }
         ensures other { IfOk result (λ ready. ready ≡ self.old) }

@@ -22,7 +22,7 @@ use crate::running::{RunGate, Running};
 use crate::threads::{share_of, threads_for};
 use ball_model::{NodeId, Plan};
 use board::{Board, Seat};
-use edgelist::Graph;
+use edgelist::{Graph, Watch};
 use replica::Replica;
 use std::alloc::{AllocError, AllocGlobal};
 use std::marker::Model;
@@ -68,7 +68,7 @@ struct Post {
 }
 
 // Runs a node at its seat, and tells the others where it ends before the end of the run.
-fn run_at<R: AllocGlobal + Threads + Wait + Sync, G: Gate>(
+fn run_at<R: AllocGlobal + Threads + Wait + Sync, G: Gate + Watch>(
     rt: &R,
     board: &Board,
     gate: &G,
@@ -95,7 +95,7 @@ fn run_at<R: AllocGlobal + Threads + Wait + Sync, G: Gate>(
     let threads = running.threads();
     let end = run_ready(rt, &mut exchange, &gate, node, part, &orders, threads);
     if !is_done(&end) {
-        running.end(node.part);
+        running.end(node);
     }
     end
 }
@@ -128,7 +128,7 @@ impl<'a, R, G> Model for Crew<'a, R, G> {
         IsCrew c.board.now (job_of c.graph.now.graph c.plan.now) c.options.now };
 }
 
-impl<'a, R: AllocGlobal + Threads + Wait + Sync, G: Gate + Sync> Crew<'a, R, G> {
+impl<'a, R: AllocGlobal + Threads + Wait + Sync, G: Gate + Watch + Sync> Crew<'a, R, G> {
     // What the thread of a node promises.
     fn assignment(&self, node: NodeId) -> Assignment
         ensures { IsAssigned self.now.job self.now.options node.part node.replica result }
@@ -180,7 +180,7 @@ impl<'a, R: AllocGlobal + Threads + Wait + Sync, G: Gate + Sync> Crew<'a, R, G> 
         { run_at(rt, board, gate, running, post) };
         let child = scope.spawn_with(assigned, work).ok();
         if child.is_none() {
-            self.running.end(node.part);
+            self.running.end(node);
         }
         child
     }
@@ -328,7 +328,7 @@ fn join_all<R: AllocGlobal + Threads>(
 
 /// Runs all nodes of a job by the parts of its partitions, a thread each, and gives the replica of each partition at the
 /// end of the run: that of the first of its nodes that is done.
-pub fn run_job<'a, R: AllocGlobal + Threads + Wait + Sync, G: Gate + Sync>(
+pub fn run_job<'a, R: AllocGlobal + Threads + Wait + Sync, G: Gate + Watch + Sync>(
     rt: &'a R,
     graph: &'a Graph,
     planned: Planned,

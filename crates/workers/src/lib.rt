@@ -11,7 +11,7 @@
 //! [`run_node`] takes one node of a partition from superstep 0 to its end, over an [`Exchange`]: a board with a seat
 //! ([`BoardExchange`]), or a board of one caller in memory ([`MemoryExchange`]). [`NodeOrders`] say how often it keeps
 //! a snapshot, how long it waits, and whether it is lost or starts anew; [`NodeEnd`] says how it ended. A [`Gate`] is
-//! called round each of its posts, and while it waits.
+//! called round each of its posts, and while it waits; [`run_watched`] has one that is also told how a run gets on.
 //!
 //! ```text
 //! let mut exchange = MemoryExchange::open(alloc, &graph, &plan, 64)?;
@@ -32,6 +32,7 @@ mod gate;
 mod indexed;
 mod job;
 mod laws;
+mod marks;
 mod memory;
 mod node;
 mod options;
@@ -41,7 +42,7 @@ mod shared;
 mod superstep;
 mod threads;
 
-pub use bytes::{RunError, run};
+pub use bytes::{RunError, run, run_watched};
 pub use exchange::{BoardExchange, Exchange};
 pub use gate::{Gate, OpenGate, SleepingGate};
 pub use laws::{histories_are_runs, paths_are_of_nodes, replicas_are_of_runs};

@@ -16,14 +16,14 @@ ghost use Rattle.workers.specs.Superstep.{early_end, end_with};
 ghost use Rattle.replica.specs.Sent.{batch_name};
 
 use crate::exchange::Exchange;
-use crate::gate::Gate;
+use crate::gate::{Gate, UnwatchedGate};
 use crate::indexed::ReadyPart;
 use crate::shared::SharedTables;
 use crate::superstep::{SuperstepEnd, catch_up, run_superstep};
 use crate::threads::{share_of, threads_for};
 use ball_model::NodeId;
 use board::BoardError;
-use edgelist::Part;
+use edgelist::{Part, Watch};
 use replica::{Replica, Shown};
 use std::alloc::{AllocError, AllocGlobal, Global};
 use std::sync::{Arc, Wait};
@@ -154,7 +154,7 @@ fn begin_anew<R: AllocGlobal + Wait, E: Exchange>(
 }
 
 // The replica goes on, superstep by superstep, until its fate is met. It uses so many threads.
-fn go_on<R: AllocGlobal + Threads + Wait + Sync, E: Exchange, G: Gate>(
+fn go_on<R: AllocGlobal + Threads + Wait + Sync, E: Exchange, G: Gate + Watch>(
     rt: &R,
     exchange: &mut E,
     gate: &G,
@@ -284,11 +284,12 @@ pub fn run_node<R: AllocGlobal + Threads + Wait + Sync, E: Exchange, G: Gate>(
 {
     let threads = share_of(threads_for(rt, 0), part.plan().parts(), 1);
     let part = ReadyPart::of(part);
-    run_ready(rt, exchange, gate, node, part, orders, threads)
+    let gate = UnwatchedGate::new(gate);
+    run_ready(rt, exchange, &gate, node, part, orders, threads)
 }
 
 /// Runs a node of a partition as [`run_node`] says, by a part that is ready for it, and in so many threads.
-pub(crate) fn run_ready<R: AllocGlobal + Threads + Wait + Sync, E: Exchange, G: Gate>(
+pub(crate) fn run_ready<R: AllocGlobal + Threads + Wait + Sync, E: Exchange, G: Gate + Watch>(
     rt: &R,
     exchange: &mut E,
     gate: &G,
@@ -313,7 +314,7 @@ pub(crate) fn run_ready<R: AllocGlobal + Threads + Wait + Sync, E: Exchange, G: 
 }
 
 // Runs a node of a partition to its end, by a new replica and in so many threads.
-fn run_from<R: AllocGlobal + Threads + Wait + Sync, E: Exchange, G: Gate>(
+fn run_from<R: AllocGlobal + Threads + Wait + Sync, E: Exchange, G: Gate + Watch>(
     rt: &R,
     exchange: &mut E,
     gate: &G,

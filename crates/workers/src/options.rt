@@ -1,12 +1,12 @@
 //! What is asked of a run.
 
 ghost use Rattle.std.specs.Prelude.{◌≡◌};
-ghost use Rattle.workers.specs.Options.{are_all_named, are_in_limits, is_named};
+ghost use Rattle.workers.specs.Options.{are_all_named, are_in_limits, is_named, run_job};
 
 use ball_model::plan::{GREATEST_LIMIT, MOST_REPLICAS};
 use ball_model::{Estimate, NodeId};
 use board::{LEAST_ENTRIES, MOST_ENTRIES};
-use edgelist::Delimiter;
+use edgelist::{Delimiter, JobOptions};
 
 /// What is asked of a run.
 #[derive(Debug, PartialEq, Eq, Drop)]
@@ -25,8 +25,8 @@ pub struct RunOptions {
     pub delimiter: Delimiter,
     /// Whether up to 2^31 vertices and 2^32 - 1 records are taken, in place of 2^24 and 2^26.
     pub large: bool,
-    /// How many threads large supersteps use, of all nodes together, each of which has at least one, and how many make the
-    /// report's figures; 0: as many as there are processors. No result depends on it.
+    /// How many threads read the edge list, how many large supersteps use, of all nodes together, each of which has at
+    /// least one, and how many make the report's figures; 0: as many as there are processors. No report depends on it.
     pub threads: u16,
     /// How many replicas each partition has, from 1 to 4.
     pub replicas: u8,
@@ -42,8 +42,8 @@ pub struct RunOptions {
     pub restart: Vec<(NodeId, u32)>,
 }
 
-// Whether a run of so many partitions and replicas has the node.
-fn is_named(parts: u16, replicas: u8, node: NodeId) -> bool
+/// Whether a run of so many partitions and replicas has the node.
+pub fn is_named(parts: u16, replicas: u8, node: NodeId) -> bool
     ensures { result ≡ is_named parts replicas node }
 {
     node.part < parts && node.replica < replicas
@@ -62,6 +62,22 @@ fn are_all_named(parts: u16, replicas: u8, orders: &[(NodeId, u32)]) -> bool
 }
 
 impl RunOptions {
+    /// What is asked of the job that is run.
+    pub fn job(&self) -> JobOptions
+        ensures { result ≡ run_job self.now }
+    {
+        JobOptions {
+            log2m: self.log2m,
+            seed: self.seed,
+            parts: self.parts,
+            limit: self.limit,
+            estimate: self.estimate,
+            delimiter: self.delimiter,
+            large: self.large,
+            threads: self.threads,
+        }
+    }
+
     /// Whether replicas, entries, keep and patience are within their limits, and each node that is ordered is one of the
     /// run.
     pub fn are_in_limits(&self) -> bool

@@ -1,16 +1,28 @@
 //! What the nodes of a run share: which partitions may still tell something, and how many threads each node has.
 
-use crate::gate::Gate;
+ghost use Rattle.std.specs.Prelude.{◌≡◌, ◌*◌, ◌≤◌, [], ◌∷◌, IfOk, IfSome, is_some};
+ghost use Rattle.ball_model.specs.declared.plan.TheConstants.{MOST_REPLICAS};
+ghost use Rattle.workers.specs.Marks.{HaveEnded, place_at};
+ghost use Rattle.workers.specs.Options.{is_named};
+
+use crate::gate::{Gate, place_of};
+use crate::marks::{Look, Marked};
+use crate::options::is_named;
 use ball_model::NodeId;
+use ball_model::plan::MOST_REPLICAS;
+use edgelist::Watch;
 use std::alloc::{AllocError, Global};
 use std::sync::atomic::{AtomicU32, Ordering};
 
-/// How many nodes of each partition have ended before the end of the run, and how many threads a node may use.
+/// Which nodes have ended before the end of the run, and how many threads a node may use.
 #[derive(Drop)]
 pub struct Running {
-    ended: Vec<AtomicU32>,
-    replicas: u32,
+    marked: Marked,
+    parts: u16,
+    replicas: u8,
     threads: usize,
+    ghost few: { replicas ≤ MOST_REPLICAS },
+    ghost places: { marked.words ≡ parts * MOST_REPLICAS },
 }
 
 impl Running {
@@ -21,39 +33,70 @@ impl Running {
         parts: u16,
         replicas: u8,
         threads: usize,
-    ) -> Result<Running, AllocError> {
+    ) -> Result<Running, AllocError>
+        requires { replicas ≤ MOST_REPLICAS }
+        ensures nodes { IfOk result (λ r. (r.parts ≡ parts) × (r.replicas ≡ replicas)) }
+        ensures threads { IfOk result (λ r. r.threads ≡ threads) }
+    {
+        let places = usize::from(parts) * usize::from(MOST_REPLICAS);
         Ok(Running {
-            ended: zeros(alloc, usize::from(parts))?,
-            replicas: u32::from(replicas),
+            marked: Marked::new(alloc, places)?,
+            parts,
+            replicas,
             threads,
         })
     }
 
     /// How many threads a node may use.
-    pub fn threads(&self) -> usize {
+    pub fn threads(&self) -> usize
+        ensures { result ≡ self.now.threads }
+    {
         self.threads
     }
 
-    /// A node of the partition has ended before the end of the run, or never had a thread.
-    pub fn end(&self, part: u16) {
-        if let Some(ended) = self.ended.get(usize::from(part)) {
-            ended.fetch_add(1, Ordering::SeqCst);
+    /// A node of the run has ended before the end of the run, or never had a thread. What is given back knows of this, and
+    /// of nothing else; None exactly if the run has no such node.
+    pub fn end(&self, node: NodeId) -> Option<Look>
+        ensures table { IfSome result (λ look. look.table_id ≡ self.now.marked) }
+        ensures known { IfSome result (λ look.
+            look.me ≡ (place_at node.part node.replica ∷ [], [])) }
+        ensures named { is_some result ≡ is_named self.now.parts self.now.replicas node }
+    {
+        if !is_named(self.parts, self.replicas, node) {
+            return None;
         }
+        let mut look = self.marked.look();
+        self.marked.mark(&mut look, place_of(node));
+        Some(look)
     }
 
     /// Not all nodes have threads, and there will be no further ones: nobody waits any more.
     pub fn stop(&self) {
-        for ended in &self.ended {
-            ended.fetch_add(self.replicas, Ordering::SeqCst);
+        for part in 0..self.parts {
+            for replica in 0..self.replicas {
+                self.end(NodeId { part, replica });
+            }
         }
     }
 
-    /// Whether a node of the partition goes on, or has reached the end of the run.
-    pub fn may_tell(&self, part: u16) -> bool {
-        match self.ended.get(usize::from(part)) {
-            Some(ended) => ended.load(Ordering::SeqCst) < self.replicas,
-            None => true,
+    /// That all nodes of a partition have ended before the end of the run; None if the run has no such partition, or one
+    /// of them goes on or has reached the end.
+    pub fn gone(&self, part: u16) -> Option<Look>
+        ensures table { IfSome result (λ look. look.table_id ≡ self.now.marked) }
+        ensures known { IfSome result (λ look.
+            HaveEnded self.now.replicas part look.me.0) }
+    {
+        if part >= self.parts {
+            return None;
         }
+        let mut look = self.marked.look();
+        for replica in 0..self.replicas {
+            let place = place_of(NodeId { part, replica });
+            if !self.marked.is_marked(&mut look, place) {
+                return None;
+            }
+        }
+        Some(look)
     }
 }
 
@@ -73,7 +116,7 @@ pub struct RunGate<'a, G> {
     running: &'a Running,
 }
 
-impl<'a, G: Gate> RunGate<'a, G> {
+impl<'a, G> RunGate<'a, G> {
     /// The caller's gate, and what is known of the ends of the nodes.
     pub fn new(gate: &'a G, running: &'a Running) -> RunGate<'a, G> {
         RunGate { gate, running }
@@ -94,7 +137,13 @@ impl<'a, G: Gate> Gate for RunGate<'a, G> {
     }
 
     fn wait_for(&self, node: NodeId, source: u16) -> bool {
-        self.running.may_tell(source) && self.gate.wait_for(node, source)
+        self.running.gone(source).is_none() && self.gate.wait_for(node, source)
+    }
+}
+
+impl<'a, G: Watch> Watch for RunGate<'a, G> {
+    fn while_read(&self, records: u64) {
+        self.gate.while_read(records);
     }
 
     fn after_read(&self, records: u64, vertices: u32) {
@@ -105,7 +154,7 @@ impl<'a, G: Gate> Gate for RunGate<'a, G> {
         self.gate.after_start(node);
     }
 
-    fn after_close(&self, node: NodeId, superstep: u32, changed: u32) {
-        self.gate.after_close(node, superstep, changed);
+    fn after_close(&self, node: NodeId, superstep: u32, changed: u32, vertices: u32) {
+        self.gate.after_close(node, superstep, changed, vertices);
     }
 }

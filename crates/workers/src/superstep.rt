@@ -27,6 +27,7 @@ use crate::node::{NodeError, NodeOrders};
 use crate::shared::SharedTables;
 use ball_model::{BatchName, NodeId};
 use batches::Batch;
+use edgelist::Watch;
 use replica::{ChangedRows, Replica, Shown, Snapshot};
 use std::alloc::{AllocError, AllocGlobal, Global};
 use std::sync::{Arc, Wait};
@@ -366,10 +367,10 @@ fn hear_all<R: AllocGlobal + Wait, E: Exchange, G: Gate>(
 }
 
 // Goes on from a superstep whose level is held.
-fn close<R: Threads + Sync, G: Gate>(
+fn close<R: Threads + Sync, V: Watch>(
     rt: &R,
     threads: usize,
-    gate: &G,
+    watch: &V,
     node: NodeId,
     replica: &mut Replica,
 ) -> SuperstepEnd
@@ -384,9 +385,10 @@ fn close<R: Threads + Sync, G: Gate>(
 {
     // the limits of a replica are told with its superstep
     let _superstep = replica.superstep();
+    let vertices = replica.plan().part_size(replica.partition());
     match replica.close_by(rt, threads) {
         Ok(reached) => {
-            gate.after_close(node, reached, replica.changed_count());
+            watch.after_close(node, reached, replica.changed_count(), vertices);
             SuperstepEnd::Next
         }
         Err(_) => SuperstepEnd::Over,
@@ -394,7 +396,7 @@ fn close<R: Threads + Sync, G: Gate>(
 }
 
 /// A superstep of a node: it keeps what it has, tells all others, takes what they tell, and goes on.
-pub fn run_superstep<R: AllocGlobal + Threads + Wait + Sync, E: Exchange, G: Gate>(
+pub fn run_superstep<R: AllocGlobal + Threads + Wait + Sync, E: Exchange, G: Gate + Watch>(
     rt: &R,
     exchange: &mut E,
     gate: &G,

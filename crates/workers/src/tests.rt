@@ -8,6 +8,7 @@ mod rows;
 mod runs;
 mod schedules;
 mod tables;
+mod watched;
 
 ghost use Rattle.std.specs.Arc.{arc_value};
 ghost use Rattle.std.specs.Prelude.{◌≡◌, ◌<◌, ◌≤◌, IfSome};

@@ -65,7 +65,7 @@ pub stopped-after : {W : Type 0} (contents : W → Option (List ℕ)) (failed : 
     TextWritten contents failed a b text → Stopped contents failed b c more e → Stopped contents failed a c (text ++ more) e
 stopped-after contents failed a b c text more e one two = record {
   begun = begins-after (contents a) (contents b) (contents c) text more one.appended two.begun;
-  failed_one = λ is. subst (λ n. n < failed c) one.counted (two.failed_one is);
+  failed_one = λ is. subst (λ n. failed c ≡ n + 1) one.counted (two.failed_one is);
   counted = λ other. two.counted other ∙ one.counted;
 }
 

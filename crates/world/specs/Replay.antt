@@ -1,20 +1,21 @@
 -- A replay: what is asked of it, and what its refusals say of the input.
-use Rattle.std.specs.Prelude.{◌≡◌, ◌≢◌, ⊤, ℕ, List, Option, Result, Ok, Err, IsOk, ◌⊎◌}
-use Rattle.std.specs.Borrow.{Bor}
+use Rattle.std.specs.Prelude.{◌≡◌, ◌≢◌, ⊤, ℕ, false, List, Option, Ok, Err, IsOk, ◌⊎◌}
 use Rattle.std.specs.Io.KnownBytes.{Appends, Keeps}
 use Rattle.ball_model.specs.declared.world.Event.{Event}
-use Rattle.ball_model.specs.Input.{IsPlain, Network, Refusal}
-use Rattle.ball_model.specs.Counting.{CountedRefusal}
-use Rattle.ball_model.specs.RunText.{ArePlain, AreRead, HasPlan, Numbers, Settings}
-use Rattle.ball_model.specs.RunText.{counted_in, list_in, network_in, plan_asked, plan_over}
-use Rattle.ball_model.specs.Streams.{Rises}
+use Rattle.ball_model.specs.Input.{IsPlain, Network}
+use Rattle.ball_model.specs.RunText.{ArePlain, AreRead, HasPlan, Numbers, network_in}
+use Rattle.ball_model.specs.RunText.{plan_asked, plan_over}
+use Rattle.ball_model.specs.Streams.{RisesByOne}
 use Rattle.ball_model.specs.World.{start_world}
 use Rattle.ball_model.specs.WorldText.{AreReplicas, HasCommands, IsReplayPlanFault, IsReplayText}
 use Rattle.ball_model.specs.WorldText.{IsReplayTextOf, IsScriptFault, ReplaySettings, job_over}
 use Rattle.ball_model.specs.WorldText.{script_of}
-use Rattle.edgelist.specs.Planning.{is_corrected, numbers_with}
-use Rattle.edgelist.specs.Reading.{Refuses, byte_of}
 use Rattle.edgelist.specs.Counting.{IsListRefusal}
+use Rattle.edgelist.specs.Job.{settings_of}
+use Rattle.edgelist.specs.Reading.{Refuses}
+use Rattle.edgelist.specs.declared.job.JobOptions.{JobOptions}
+use Rattle.edgelist.specs.declared.job.NetworkError.{NetworkError}
+use Rattle.edgelist.specs.declared.job.NetworkError.TheVariants as unread
 use Rattle.edgelist.specs.declared.read.EdgeError.TheVariants as edge_fault
 use Rattle.world.specs.declared.replay.ReplayOptions.{ReplayOptions}
 use Rattle.world.specs.declared.replay.ReplayError.{ReplayError}
@@ -26,44 +27,33 @@ use Rattle.world.specs.Tell.{BeginsText}
 
 -- ---- what is asked
 
-abbrev pub replay_numbers_of : ReplayOptions → Numbers
-replay_numbers_of o = numbers_with (is_corrected o.estimate) o.log2m o.seed o.parts o.limit
-
-abbrev pub replay_settings_of : ReplayOptions → Settings
-replay_settings_of o = record { numbers = replay_numbers_of o; delimiter = byte_of o.delimiter }
+-- the job, whose edge list is no large one
+abbrev pub replay_job : ReplayOptions → JobOptions
+replay_job o = record {
+  log2m = o.log2m;
+  seed = o.seed;
+  parts = o.parts;
+  limit = o.limit;
+  estimate = o.estimate;
+  delimiter = o.delimiter;
+  large = false;
+  threads = 0;
+}
 
 abbrev pub replay_of : ReplayOptions → ReplaySettings
-replay_of o = record { run = replay_settings_of o; replicas = o.replicas }
-
--- what an edge list says under the options, and a list of counted vertices of that
-abbrev pub replay_network_by : ReplayOptions → List ℕ → Result Network Refusal
-replay_network_by o edges = network_in (replay_settings_of o) edges
-
-abbrev pub replay_counted_by : ReplayOptions → Network → Option (Bor (List ℕ)) →
-    Result Network CountedRefusal
-replay_counted_by o network counted = counted_in (replay_settings_of o) network (list_in counted)
+replay_of o = record { run = settings_of (replay_job o); replicas = o.replicas }
 
 -- ---- what errors are told as
+
+abbrev pub told_network : NetworkError → ReplayError
+told_network (unread.Edges e) = fault.Edges e
+told_network (unread.Counted e) = fault.Counted e
 
 abbrev pub told_tell : TellError → ReplayError
 told_tell untold.Memory = fault.Memory
 told_tell untold.Write = fault.Write
 
 -- ---- what refusals say
-
--- the error is of the edge list, which can be read, or of the list of counted vertices
-abbrev pub IsOfInput : ReplayError → Type 0
-IsOfInput fault.Options = ⊥
-IsOfInput (fault.Script n) = ⊥
-IsOfInput (fault.Edges edge_fault.Read) = ⊥
-IsOfInput (fault.Edges edge_fault.TooManyEdges) = ⊤
-IsOfInput (fault.Edges (edge_fault.Fields n)) = ⊤
-IsOfInput (fault.Edges edge_fault.TooManyVertices) = ⊤
-IsOfInput (fault.Edges edge_fault.Memory) = ⊤
-IsOfInput (fault.Counted e) = ⊤
-IsOfInput (fault.Plan e) = ⊥
-IsOfInput fault.Memory = ⊥
-IsOfInput fault.Write = ⊥
 
 -- what a refusal says of the options and the script, the first of the checks, which take no memory
 abbrev pub RefusesCommands : ReplaySettings → List ℕ → ReplayError → Type 0
@@ -74,16 +64,6 @@ RefusesCommands s script (fault.Counted e) = ⊥
 RefusesCommands s script (fault.Plan e) = ⊥
 RefusesCommands s script fault.Memory = ⊥
 RefusesCommands s script fault.Write = ⊥
-
--- what a refusal says of the network, as far as it was read
-abbrev pub RefusesReplayRead : Settings → List ℕ → Option (List ℕ) → ReplayError → Type 0
-RefusesReplayRead s edges list fault.Options = ⊥
-RefusesReplayRead s edges list (fault.Script n) = ⊥
-RefusesReplayRead s edges list (fault.Edges e) = Refuses (network_in s edges) e
-RefusesReplayRead s edges list (fault.Counted e) = IsListRefusal s edges list e
-RefusesReplayRead s edges list (fault.Plan e) = ⊥
-RefusesReplayRead s edges list fault.Memory = ⊥
-RefusesReplayRead s edges list fault.Write = ⊥
 
 -- there is such a plan, and that is the start of the world of its job
 pub record IsStarted (n : Numbers) (replicas : ℕ) (network : Network)
@@ -207,7 +187,7 @@ pub record FailsOfReplay (s : ReplaySettings) (edges : List ℕ) (list : Option 
   pub of_edges : IsPlain edges → RefusesEdges s edges e
   pub refused : ArePlain edges list → IsReplayRefusal s edges list script e
   pub no_read : e ≢ fault.Edges edge_fault.Read
-  pub write : e ≡ fault.Write → Rises failed_old failed_new
+  pub write : e ≡ fault.Write → RisesByOne failed_old failed_new
   pub counted : e ≢ fault.Write → failed_new ≡ failed_old
   pub untouched : e ≢ fault.Memory → e ≢ fault.Write → Keeps old new
   pub begun : ArePlain edges list → e ≡ fault.Write →

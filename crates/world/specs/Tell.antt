@@ -1,7 +1,7 @@
 -- What is written of a text, to its end or not.
 use Rattle.std.specs.Prelude.{◌≡◌, ◌≢◌, ℕ, List, ◌++◌, Option, Result, MatchResult}
 use Rattle.std.specs.Io.KnownBytes.{Appends}
-use Rattle.ball_model.specs.Streams.{Rises, TextWritten}
+use Rattle.ball_model.specs.Streams.{RisesByOne, TextWritten}
 use Rattle.ball_model.specs.declared.world.Answer.{Answer}
 use Rattle.ball_model.specs.declared.world.Answer.TheVariants as answer
 use Rattle.ball_model.specs.declared.world.WorldError.{WorldError}
@@ -21,7 +21,7 @@ pub record BeginsText (old new : Option (List ℕ)) (text : List ℕ) : Type 0 w
 pub record Stopped {W : Type 0} (contents : W → Option (List ℕ)) (failed : W → ℕ) (old new : W)
     (text : List ℕ) (e : TellError) : Type 0 where
   pub begun : BeginsText (contents old) (contents new) text
-  pub failed_one : e ≡ fault.Write → Rises (failed old) (failed new)
+  pub failed_one : e ≡ fault.Write → RisesByOne (failed old) (failed new)
   pub counted : e ≢ fault.Write → failed new ≡ failed old
 
 -- one or the other

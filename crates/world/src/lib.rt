@@ -19,7 +19,7 @@
 //! ```
 //!
 //! [`replay::replay`] goes from an edge list and a script, a command on each line, to the text of the answers;
-//! [`replay::replay_watched`] calls a [`watch::Watch`] as it gets on.
+//! [`replay::replay_watched`] calls a [`edgelist::Watch`] as it gets on.
 //!
 //! An event is refused ([`WorldError`]) where there is no such node, target, message or copy, or where memory is
 //! refused; then the world is as it was.
@@ -34,7 +34,6 @@ pub mod replay;
 pub mod script;
 mod start;
 pub mod tell;
-pub mod watch;
 mod world;
 
 pub use ball_model::world::{Answer, Event, WorldError};

@@ -1,26 +1,23 @@
 //! A script over an edge list, and its answers.
 
-ghost use Rattle.std.specs.Prelude.{◌≡◌, ◌≢◌, Ok, Err, IfErr, IfOk, IfSome, IsOk, OnOk, length};
-ghost use Rattle.ball_model.specs.Job.{IsJob, job_of};
-ghost use Rattle.ball_model.specs.Input.{IsPlain, records};
-ghost use Rattle.ball_model.specs.RunText.{ArePlain, AreRead, list_in, plan_asked};
+ghost use Rattle.std.specs.Prelude.{◌≡◌, IfErr, IfOk, IsOk, OnOk};
+ghost use Rattle.ball_model.specs.Input.{IsPlain};
+ghost use Rattle.ball_model.specs.RunText.{ArePlain, list_in, network_in};
 ghost use Rattle.ball_model.specs.WorldText.{AppendsReplay, HasCommands, script_of};
-ghost use Rattle.edgelist.specs.Counting.{RefusesList};
-ghost use Rattle.edgelist.specs.Reading.{Refuses, byte_of};
-ghost use Rattle.world.specs.Replay.{AppendsSomeReplay, FailsOfReplay, IsBegun, IsEarly, IsOfInput};
-ghost use Rattle.world.specs.Replay.{IsReady, RefusesCommands, RefusesEdges, RefusesReplayRead};
-ghost use Rattle.world.specs.Replay.{RefusesStart, replay_counted_by, replay_network_by};
-ghost use Rattle.world.specs.Replay.{replay_numbers_of, replay_of, replay_settings_of};
+ghost use Rattle.edgelist.specs.Job.{numbers_of, settings_of};
+ghost use Rattle.world.specs.Replay.{AppendsSomeReplay, FailsOfReplay, IsBegun, IsEarly, IsReady};
+ghost use Rattle.world.specs.Replay.{RefusesCommands, RefusesStart, replay_job, replay_of};
 
 use crate::World;
 use crate::bytes::Bytes;
 use crate::script::{first_fault, read_script};
 use crate::tell::{TellError, tell_events};
-use crate::watch::{Unwatched, Watch};
 use ball_model::plan::MOST_REPLICAS;
 use ball_model::world::Event;
-use ball_model::{CountedWrite, Estimate, Plan, PlanError};
-use edgelist::{CountedError, Delimiter, EdgeError, EdgeList, Graph, LIMITS, read_edge_list};
+use ball_model::{CountedWrite, Estimate, PlanError};
+use edgelist::{
+    CountedError, Delimiter, EdgeError, Graph, JobOptions, NetworkError, Unwatched, Watch,
+};
 use std::alloc::{AllocError, Global};
 use std::hash::RandomState;
 use thiserror::Error;
@@ -42,6 +39,24 @@ pub struct ReplayOptions {
     pub estimate: Estimate,
     /// What stands between the two fields of a line of the edge list.
     pub delimiter: Delimiter,
+}
+
+impl ReplayOptions {
+    /// What is asked of its job, whose edge list is no large one.
+    pub fn job(&self) -> JobOptions
+        ensures { result ≡ replay_job self.now }
+    {
+        JobOptions {
+            log2m: self.log2m,
+            seed: self.seed,
+            parts: self.parts,
+            limit: self.limit,
+            estimate: self.estimate,
+            delimiter: self.delimiter,
+            large: false,
+            threads: 0,
+        }
+    }
 }
 
 /// Why a replay gives no answers, or not all of them, in the order of the checks.
@@ -70,23 +85,16 @@ pub enum ReplayError {
     Write,
 }
 
-impl From<EdgeError> for ReplayError {
-    ghost use Rattle.world.specs.declared.replay.ReplayError.TheVariants.{Edges};
+impl From<NetworkError> for ReplayError {
+    ghost use Rattle.world.specs.Replay.{told_network};
 
-    ghost from_gives = { λ fault e. e ≡ Edges fault };
+    ghost from_gives = { λ fault e. e ≡ told_network fault };
 
-    fn from(fault: EdgeError) -> ReplayError {
-        ReplayError::Edges(fault)
-    }
-}
-
-impl From<CountedError> for ReplayError {
-    ghost use Rattle.world.specs.declared.replay.ReplayError.TheVariants.{Counted};
-
-    ghost from_gives = { λ fault e. e ≡ Counted fault };
-
-    fn from(fault: CountedError) -> ReplayError {
-        ReplayError::Counted(fault)
+    fn from(fault: NetworkError) -> ReplayError {
+        match fault {
+            NetworkError::Edges(fault) => ReplayError::Edges(fault),
+            NetworkError::Counted(fault) => ReplayError::Counted(fault),
+        }
     }
 }
 
@@ -137,95 +145,6 @@ fn check_commands(script: &[u8], options: &ReplayOptions) -> Result<(), ReplayEr
     }
 }
 
-// The graph that an edge list in memory says, and how many records it has.
-fn read_all(
-    alloc: Global,
-    state: RandomState,
-    edges: &[u8],
-    options: &ReplayOptions,
-) -> Result<EdgeList, EdgeError>
-    ensures ok { IsPlain edges.now →
-        IfOk result (λ all. replay_network_by options.now edges.now ≡ Ok all.graph) }
-    ensures count { IsPlain edges.now → IfOk result (λ all.
-        all.records ≡ length (records (byte_of options.now.delimiter) edges.now)) }
-    ensures refused { IsPlain edges.now →
-        IfErr result (Refuses (replay_network_by options.now edges.now)) }
-    ensures read { result ≢ Err EdgeError.Read }
-{
-    read_edge_list(
-        alloc,
-        state,
-        &mut Bytes::new(edges),
-        options.delimiter,
-        LIMITS,
-    )
-}
-
-// Counts only the vertices of a list, where there is one.
-fn count_listed(
-    alloc: Global,
-    mut graph: Graph,
-    counted: Option<&[u8]>,
-    options: &ReplayOptions,
-) -> Result<Graph, CountedError>
-    ensures ok { IfSome (list_in counted.entry) IsPlain → IfOk result (λ listed.
-        replay_counted_by options.now graph counted.entry ≡ Ok listed) }
-    ensures refused { IfSome (list_in counted.entry) IsPlain → IfErr result (
-        RefusesList (replay_counted_by options.now graph counted.entry)) }
-{
-    if let Some(list) = counted {
-        graph.count_only(alloc, options.delimiter, list)?;
-    }
-    Ok(graph)
-}
-
-// The graph that an edge list and a list of counted vertices say, and how many records the edge list has.
-fn read_network(
-    alloc: Global,
-    state: RandomState,
-    edges: &[u8],
-    counted: Option<&[u8]>,
-    options: &ReplayOptions,
-) -> Result<EdgeList, ReplayError>
-    ensures ok { ArePlain edges.now (list_in counted.entry) → IfOk result (λ read.
-        AreRead (replay_settings_of options.now) edges.now (list_in counted.entry) read.graph) }
-    ensures count { IsPlain edges.now → IfOk result (λ read.
-        read.records ≡ length (records (byte_of options.now.delimiter) edges.now)) }
-    ensures refused { ArePlain edges.now (list_in counted.entry) →
-        IfErr result (RefusesReplayRead (replay_settings_of options.now) edges.now
-        (list_in counted.entry)) }
-    ensures listed { IsPlain edges.now →
-        OnOk result (IsOk (replay_network_by options.now edges.now)) }
-    ensures edges { IsPlain edges.now →
-        IfErr result (RefusesEdges (replay_of options.now) edges.now) }
-    ensures kind { IfErr result IsOfInput }
-{
-    let read = read_all(alloc, state, edges, options)?;
-    let graph = count_listed(alloc, read.graph, counted, options)?;
-    Ok(EdgeList {
-        graph,
-        records: read.records,
-    })
-}
-
-// The plan of a replay over a graph, or the first fault of the options.
-fn plan_for(graph: &Graph, options: &ReplayOptions) -> Result<Plan, PlanError>
-    ensures value { result ≡ plan_asked (replay_numbers_of options.now) graph.now.graph }
-    ensures job { IfOk result (λ plan. IsJob (job_of graph.now.graph plan)) }
-{
-    let ReplayOptions {
-        log2m,
-        seed,
-        parts,
-        limit,
-        ..
-    } = *options;
-    match options.estimate {
-        Estimate::Raw => graph.plan(log2m, seed, parts, limit),
-        Estimate::Corrected => graph.corrected_plan(log2m, seed, parts, limit),
-    }
-}
-
 // The events of a script, and the world of a graph at its start. Memory is taken once there is a plan.
 fn begin(
     alloc: Global,
@@ -235,9 +154,9 @@ fn begin(
 ) -> Result<(Vec<Event>, World), ReplayError>
     ensures ok { IsOk (script_of script.now) → IfOk result (λ both. IsBegun
         (replay_of options.now) graph.now script.now both.0.items both.1) }
-    ensures refused { IfErr result (RefusesStart (replay_numbers_of options.now) graph.now) }
+    ensures refused { IfErr result (RefusesStart (numbers_of (replay_job options.now)) graph.now) }
 {
-    let plan = plan_for(graph, options)?;
+    let plan = options.job().plan(graph)?;
     let events = read_script(alloc, script)?;
     let world = World::new(alloc, graph, &plan, options.replicas)?;
     Ok((events, world))
@@ -259,7 +178,8 @@ fn prepare<V: Watch>(
         (IsEarly (replay_of options.now) edges.now (list_in counted.entry) script.now) }
 {
     check_commands(script, options)?;
-    let read = read_network(alloc, state, edges, counted, options)?;
+    let job = options.job();
+    let read = job.read_network(alloc, state, &mut Bytes::new(edges), counted)?;
     watch.after_read(read.records, read.graph.vertices());
     begin(alloc, &read.graph, script, options)
 }
@@ -295,7 +215,7 @@ pub fn replay<W: CountedWrite>(
     ensures some { OnOk result (AppendsSomeReplay (replay_of options.now) script.now
         (W.contents writer.old) (W.contents writer.new)) }
     ensures edges { IsPlain edges.now →
-        OnOk result (IsOk (replay_network_by options.now edges.now)) }
+        OnOk result (IsOk (network_in (settings_of (replay_job options.now)) edges.now)) }
     ensures commands { OnOk result (HasCommands (replay_of options.now) script.now) }
     ensures counted { OnOk result (W.failed_calls writer.new ≡ W.failed_calls writer.old) }
     ensures failed { IfErr result (FailsOfReplay (replay_of options.now) edges.now
@@ -325,7 +245,7 @@ pub fn replay_watched<W: CountedWrite, V: Watch>(
     ensures some { OnOk result (AppendsSomeReplay (replay_of options.now) script.now
         (W.contents writer.old) (W.contents writer.new)) }
     ensures edges { IsPlain edges.now →
-        OnOk result (IsOk (replay_network_by options.now edges.now)) }
+        OnOk result (IsOk (network_in (settings_of (replay_job options.now)) edges.now)) }
     ensures commands { OnOk result (HasCommands (replay_of options.now) script.now) }
     ensures counted { OnOk result (W.failed_calls writer.new ≡ W.failed_calls writer.old) }
     ensures failed { IfErr result (FailsOfReplay (replay_of options.now) edges.now

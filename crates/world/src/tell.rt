@@ -17,9 +17,9 @@ ghost use Rattle.world.specs.Tell.{Tells, is_shown};
 
 use crate::World;
 use crate::answer::{put_answer, put_node, put_refusal, put_vertex};
-use crate::watch::Watch;
 use ball_model::world::{Answer, Event, WorldError};
 use ball_model::{CountedWrite, NodeId, put_all};
+use edgelist::Watch;
 use replica::{Replica, Shown};
 use std::alloc::{AllocError, Global};
 

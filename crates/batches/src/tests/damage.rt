@@ -35,7 +35,7 @@ fn see_turned(alloc: Global, plan: &Plan, place: usize) -> Option<u32> {
     Some(read)
 }
 
-// The same of all bytes.
+// Reads the batch with each of the bits of all its bytes turned in turn.
 fn see_all_turned(alloc: Global, plan: &Plan) -> Option<u32> {
     let mut read = 0u32;
     for place in 0..74 {

@@ -39,8 +39,8 @@ fn is_pushed(batch: &mut Batch) -> bool
     }
 }
 
-// The same of a new batch with the row of vertex 0: none where memory is refused before. Then it is made again, and
-// nothing is refused.
+// Whether a row is added to a new batch with the row of vertex 0: none if memory is refused before. Then the batch is
+// made again, and nothing is refused.
 fn is_pushed_to(alloc: Global) -> Option<bool> {
     let Ok(plan) = plan(JOB) else {
         return None;

@@ -5,7 +5,7 @@ use super::*;
 
 /// An edge list, what stands between its fields, the limits on vertices and records, and the lines of its graph or the
 /// error.
-type Case<'a> = (&'a [u8], Delimiter, u32, u64, Result<&'a [u8], EdgeError>);
+pub(super) type Case<'a> = (&'a [u8], Delimiter, u32, u64, Result<&'a [u8], EdgeError>);
 
 // Whether an edge list is told so, and also where its bytes are given one after the other.
 fn is_told(rt: &HostRuntime, case: &Case<'_>) -> bool {
@@ -33,7 +33,7 @@ use Delimiter::{Comma, Space, Tab};
 // A comment, both ends of lines, a double and a self-loop; no end of the last line, and a comment in its place; one
 // vertex, and none; other delimiters; quotes, bytes that are no text, and one space. A byte order mark in front of lines,
 // of nothing and of a comment is skipped; a second one, one in a later line and the beginning of one are labels' bytes.
-static CASES: [Case<'static>; 34] = [
+pub(super) static CASES: [Case<'static>; 34] = [
     (TWO_EDGES, Tab, 9, 9, Ok(TWO_LINES)),
     (
         b"# c\r\na\tb\r\nb\tc\r\na\tb\r\nb\tb\r\n",

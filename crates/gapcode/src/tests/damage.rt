@@ -69,7 +69,7 @@ fn see_turned(alloc: Global, bytes: &mut [u8], count: usize, bound: u32) -> Opti
     Some(read)
 }
 
-// The same of a copy of the bytes.
+// Reads a copy of the bytes with each bit turned in turn.
 fn see_copy(alloc: Global, bytes: &[u8], count: usize, bound: u32) -> Option<u32> {
     let mut copy = bytes.to_vec(alloc).ok()?;
     see_turned(alloc, &mut copy, count, bound)

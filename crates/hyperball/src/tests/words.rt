@@ -1,18 +1,20 @@
 //! What words are read as, and the texts of faults.
 
 use super::*;
+use crate::cli::gather::GatherWords;
+use crate::cli::one_node::NodeWords;
+use crate::cli::run::RunWords;
+use crate::cli::{Wish, read_words};
 use crate::laws::{
     lines_of_progress, lists_of_orders, words_of_a_node, words_of_a_replay, words_of_a_run,
     words_of_no_command, words_of_no_node, words_of_no_replay, words_of_no_run,
     words_of_one_command, words_of_progress,
 };
-use crate::node_words::{GatherWords, NodeWords};
 use crate::options::Options;
 use crate::whole::WholeError;
-use crate::words::{RunWords, Wish, read_words};
 use ball_model::{Estimate, NodeId, PlanError};
-use edgelist::{CountedError, Delimiter, EdgeError};
-use node::job::JobOptions;
+use edgelist::{CountedError, Delimiter, EdgeError, JobOptions};
+use node::job::JobInput;
 use std::fmt::Display;
 use std::io::Write;
 use workers::RunError;
@@ -120,26 +122,47 @@ const SAID: RunWords = RunWords {
 };
 
 /// The options of a job where none is given.
-const JOB: JobOptions = JobOptions {
-    log2m: 8,
-    seed: 0,
-    parts: 1,
-    limit: 4096,
-    estimate: Estimate::Raw,
-    delimiter: Delimiter::Tab,
-    large: false,
+const USUAL_JOB: JobInput = JobInput {
+    options: JobOptions {
+        log2m: 8,
+        seed: 0,
+        parts: 1,
+        limit: 4096,
+        estimate: Estimate::Raw,
+        delimiter: Delimiter::Tab,
+        large: false,
+        threads: 0,
+    },
     counted: false,
 };
 
-/// The same of a large edge list.
-const LARGE_JOB: JobOptions = JobOptions {
-    log2m: 8,
-    seed: 0,
-    parts: 1,
-    limit: 4096,
-    estimate: Estimate::Raw,
-    delimiter: Delimiter::Tab,
-    large: true,
+/// Those of a large edge list.
+const LARGE_JOB: JobInput = JobInput {
+    options: JobOptions {
+        log2m: 8,
+        seed: 0,
+        parts: 1,
+        limit: 4096,
+        estimate: Estimate::Raw,
+        delimiter: Delimiter::Tab,
+        large: true,
+        threads: 0,
+    },
+    counted: false,
+};
+
+/// Those of a large edge list, with a number of threads.
+const LARGE_SHARED_JOB: JobInput = JobInput {
+    options: JobOptions {
+        log2m: 8,
+        seed: 0,
+        parts: 1,
+        limit: 4096,
+        estimate: Estimate::Raw,
+        delimiter: Delimiter::Tab,
+        large: true,
+        threads: 3,
+    },
     counted: false,
 };
 
@@ -215,7 +238,7 @@ static READINGS: [(&str, Reading); 8] = [
     (
         "hyperball node",
         Reading::Node(NodeWords {
-            options: JOB,
+            job: USUAL_JOB,
             part: 0,
             progress: false,
         }),
@@ -223,7 +246,7 @@ static READINGS: [(&str, Reading); 8] = [
     (
         "hyperball node --part 3",
         Reading::Node(NodeWords {
-            options: JOB,
+            job: USUAL_JOB,
             part: 3,
             progress: false,
         }),
@@ -231,7 +254,7 @@ static READINGS: [(&str, Reading); 8] = [
     (
         "hyperball node --progress --part 3",
         Reading::Node(NodeWords {
-            options: JOB,
+            job: USUAL_JOB,
             part: 3,
             progress: true,
         }),
@@ -239,23 +262,21 @@ static READINGS: [(&str, Reading); 8] = [
     (
         "hyperball gather",
         Reading::Gather(GatherWords {
-            options: JOB,
-            threads: 0,
+            job: USUAL_JOB,
             progress: false,
         }),
     ),
     (
         "hyperball gather --progress",
         Reading::Gather(GatherWords {
-            options: JOB,
-            threads: 0,
+            job: USUAL_JOB,
             progress: true,
         }),
     ),
     (
         "hyperball node --large",
         Reading::Node(NodeWords {
-            options: LARGE_JOB,
+            job: LARGE_JOB,
             part: 0,
             progress: false,
         }),
@@ -263,8 +284,7 @@ static READINGS: [(&str, Reading); 8] = [
     (
         "hyperball gather --large --threads 3",
         Reading::Gather(GatherWords {
-            options: LARGE_JOB,
-            threads: 3,
+            job: LARGE_SHARED_JOB,
             progress: false,
         }),
     ),

@@ -32,7 +32,7 @@ fn passed_on(rt: &HostRuntime, input: &[u8]) -> Option<(u32, bool)> {
         waits: false,
         passed: 0,
     });
-    let end = end_of(rt, &options(2), input, &Unwatched, &mut writer);
+    let end = end_of(rt, &job(2), input, &Unwatched, &mut writer);
     let held = writer.into_inner();
     match end {
         Some(Ok(())) => Some((held.passed, held.waits)),

@@ -65,7 +65,7 @@ fn node_is_watched(rt: &HostRuntime) -> bool {
         return false;
     };
     let watch = Digits::new();
-    let end = end_of(rt, &options(1), ANEW, &watch, &mut writer);
+    let end = end_of(rt, &job(1), ANEW, &watch, &mut writer);
     let text = writer.into_bytes();
     end == Some(Ok(())) && text.as_slice() == ANSWERS && watch.told() == 32_0112_0112_0202
 }
@@ -113,7 +113,7 @@ fn gathered<T: AllocGlobal + RandomSource + Threads + Sync>(
     let state = RandomState::new(rt).ok()?;
     let mut reader = MemReader::new(input, None);
     let mut writer = MemWriter::with_room(rt.alloc(), 4096, None).ok()?;
-    gather(rt, state, &options(2), 1, watch, &mut reader, &mut writer).ok()?;
+    gather(rt, state, &job(2), watch, &mut reader, &mut writer).ok()?;
     Some(writer.into_bytes())
 }
 

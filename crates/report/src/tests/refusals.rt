@@ -57,7 +57,7 @@ impl Write for Slow {
     }
 }
 
-// The same in a writer that takes a byte a call.
+// The report as it goes to a writer that takes a byte a call.
 fn dripped<H: AllocGlobal + Threads + Sync>(
     rt: &H,
     graph: &Graph,
@@ -124,7 +124,7 @@ fn is_right<H: AllocGlobal + Threads + Sync>(
     }
 }
 
-// The same of a graph.
+// Whether the report of replicas of a graph is right in this trouble.
 fn is_right_of<H: AllocGlobal + Threads + Sync>(
     rt: &H,
     graph: &Graph,
@@ -136,7 +136,8 @@ fn is_right_of<H: AllocGlobal + Threads + Sync>(
     }
 }
 
-// The same of the two edges: None where memory is refused before. Then all is done again, and nothing is refused.
+// Whether the report of the two edges is: None if memory is refused before. Then all is done again, and nothing is
+// refused.
 fn is_right_in<H: AllocGlobal + RandomSource + Threads + Sync>(
     rt: &H,
     trouble: Trouble,

@@ -33,7 +33,7 @@ fn takes_pages(alloc: Global, text: &mut Pages) -> bool {
         && takes(alloc, text, Some(2), b"one,", false)
 }
 
-// The same of a new text.
+// Whether a new text is written and taken.
 fn a_text_is_taken(alloc: Global) -> bool {
     let mut text = Pages::new(alloc);
     takes_pages(alloc, &mut text)

@@ -1,19 +1,25 @@
-//! How the nodes of a run count who has ended too early.
+//! How the nodes of a run mark who has ended too early.
 
 use super::*;
 use crate::running::Running;
 
 /// Whether each of two partitions may still tell something.
 fn may_tell(running: &Running) -> (bool, bool) {
-    (running.may_tell(0), running.may_tell(1))
+    (running.gone(0).is_none(), running.gone(1).is_none())
 }
 
-/// Whether of two replicas each counts once, and for its own partition alone.
+/// A node of the second partition.
+fn second(replica: u8) -> NodeId {
+    NodeId { part: 1, replica }
+}
+
+/// Whether of two replicas each counts once, however often it is said to have ended, and for its own partition alone.
 fn count_once(running: &Running) -> bool {
     let none = may_tell(running);
-    running.end(1);
+    running.end(second(0));
+    running.end(second(0));
     let one = may_tell(running);
-    running.end(1);
+    running.end(second(1));
     let two = may_tell(running);
     none == (true, true) && one == (true, true) && two == (true, false)
 }

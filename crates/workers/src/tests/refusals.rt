@@ -1,7 +1,7 @@
 //! Refused memory, and streams that fail. A run of the first two tests can refuse any one growth: then a node ends with
 //! want of memory, a run writes nothing, and what was refused is done when it is done again.
 
-use super::runs::{REPORT, Seen, USUAL, Written, seen};
+use super::runs::{Asked, REPORT, Seen, USUAL, Written, seen};
 use super::*;
 use edgelist::EdgeError;
 use std::thread::Threads;
@@ -26,13 +26,18 @@ fn nodes_whose_memory_is_refused(rt: HostRuntime) {
     assert!(rt; is_done(&rt, None) && is_done(&rt, Some(2)));
 }
 
-/// What is seen of a run of the two edges in one partition, where a call of the reader and one of the writer may fail.
+/// What is seen of a run of the two edges in one partition, which one thread reads, where a call of the reader and one of
+/// the writer may fail.
 fn seen_there<R: AllocGlobal + RandomSource + Threads + Wait + Sync>(
     rt: &R,
     read_fails: Option<u64>,
     write_fails: Option<u64>,
 ) -> Seen {
-    seen(rt, &USUAL, &OpenGate, REPORT, read_fails, write_fails)
+    let asked = Asked {
+        threads: 1,
+        ..USUAL
+    };
+    seen(rt, &asked, &OpenGate, REPORT, read_fails, write_fails)
 }
 
 /// A run that writes its report.

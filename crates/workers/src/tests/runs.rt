@@ -57,7 +57,7 @@ pub const USUAL: Asked<'static> = Asked {
 };
 
 /// What is asked, as the options of a run; None where memory was refused.
-fn options_of(alloc: Global, asked: &Asked) -> Option<RunOptions> {
+pub fn options_of(alloc: Global, asked: &Asked) -> Option<RunOptions> {
     let lose = asked.lose.to_vec(alloc).ok()?;
     let restart = asked.restart.to_vec(alloc).ok()?;
     Some(RunOptions {

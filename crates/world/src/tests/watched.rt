@@ -2,8 +2,8 @@
 
 use super::replays::options;
 use crate::replay::{ReplayError, replay_watched};
-use crate::watch::Watch;
 use ball_model::{MemWriter, NodeId, PlanError};
+use edgelist::Watch;
 use std::alloc::AllocGlobal;
 use std::hash::RandomState;
 use std::sync::atomic::{AtomicU64, Ordering};

@@ -1,4 +1,4 @@
-use Rattle.std.proofs.Common.{◌≡◌, arith, refl}
+use Rattle.std.proofs.Common.{arith, refl}
 use Rattle.std.proofs.lemmas.Bool.{le-ltb}
 use Rattle.ball_model.specs.PlanValue.{most_vertices, usual_vertices}
 use Rattle.ball_model.proofs.laws.usual_is_large.Goals as goal

@@ -18,8 +18,9 @@ returns-clause-usual c = record {
     _,
     refl,
     record {
-      options = record { log2m = refl; seed = refl; parts = refl; limit = refl; estimate = refl; delimiter = refl; counted = refl };
+      job = record { log2m = refl; seed = refl; parts = refl; limit = refl; estimate = refl; delimiter = refl; counted = refl };
       large = refl;
+      threads = refl;
       part = refl;
       progress = refl;
     },
@@ -37,7 +38,7 @@ returns-clause-third c = record {
     _,
     refl,
     record {
-      options = record {
+      job = record {
         log2m = record { numeral = (lit< tt, (lit< tt, tt)); value = refl; fits = lit< tt };
         seed = refl;
         parts = record { numeral = (lit< tt, (lit< tt, tt)); value = refl; fits = lit< tt };
@@ -47,6 +48,7 @@ returns-clause-third c = record {
         counted = refl;
       };
       large = refl;
+      threads = refl;
       part = record { numeral = (lit< tt, (lit< tt, tt)); value = refl; fits = lit< tt };
       progress = refl;
     },
@@ -64,7 +66,7 @@ returns-clause-gather c = record {
     _,
     refl,
     record {
-      options = record {
+      job = record {
         log2m = refl;
         seed = refl;
         parts = record { numeral = (lit< tt, (lit< tt, tt)); value = refl; fits = lit< tt };
@@ -91,8 +93,9 @@ returns-clause-telling c = record {
     _,
     refl,
     record {
-      options = record { log2m = refl; seed = refl; parts = refl; limit = refl; estimate = refl; delimiter = refl; counted = refl };
+      job = record { log2m = refl; seed = refl; parts = refl; limit = refl; estimate = refl; delimiter = refl; counted = refl };
       large = refl;
+      threads = refl;
       part = refl;
       progress = refl;
     },
@@ -110,7 +113,7 @@ returns-clause-telling_gather c = record {
     _,
     refl,
     record {
-      options = record { log2m = refl; seed = refl; parts = refl; limit = refl; estimate = refl; delimiter = refl; counted = refl };
+      job = record { log2m = refl; seed = refl; parts = refl; limit = refl; estimate = refl; delimiter = refl; counted = refl };
       large = refl;
       threads = refl;
       progress = refl;

@@ -1,17 +1,17 @@
 use Rattle.std.proofs.Common.{◌≡◌, subst, sym, true}
 use Rattle.std.specs.Prelude.{IfSome}
 use Rattle.node.specs.Gathering.{GathersJob}
-use Rattle.node.specs.Job.{job_settings_of}
+use Rattle.edgelist.specs.Job.{settings_of}
 use Rattle.node.specs.NoReport.{WritesFrontOfJob}
 use Rattle.node.specs.Serving.{ServesNode}
 use Rattle.hyperball.specs.Faults.{FailsGathering, FailsNode, FailsReplaying, FailsRun}
 use Rattle.hyperball.specs.Replaying.{BeginsToServe, ServesReplay}
 use Rattle.hyperball.specs.Words.{Reports}
-use Rattle.hyperball.specs.declared.node_words.GatherWords.{GatherWords}
-use Rattle.hyperball.specs.declared.node_words.NodeWords.{NodeWords}
-use Rattle.hyperball.specs.declared.replay_words.ReplayWords.{ReplayWords}
-use Rattle.hyperball.specs.declared.words.RunWords.{RunWords}
-use Rattle.hyperball.specs.declared.words.Said.{Said}
+use Rattle.hyperball.specs.declared.cli.gather.GatherWords.{GatherWords}
+use Rattle.hyperball.specs.declared.cli.one_node.NodeWords.{NodeWords}
+use Rattle.hyperball.specs.declared.cli.replay.ReplayWords.{ReplayWords}
+use Rattle.hyperball.specs.declared.cli.run.RunWords.{RunWords}
+use Rattle.hyperball.specs.declared.cli.run.Said.{Said}
 use Rattle.hyperball.proofs.NodeLemmas.{gather_no_replay, gather_no_run, gather_tells, node_no_gather, node_no_replay, node_no_run, node_tells, replay_no_gather, replay_no_node, run_no_gather, run_no_node, same_gather, same_node, same_said}
 use Rattle.hyperball.proofs.ReplayLemmas.{is_replay, is_run, not_replay, not_run, replay_tells, run_tells}
 use Rattle.hyperball.proofs.serve.serve_wish.Goals as goal
@@ -71,7 +71,7 @@ returns-in-Node g c = record {
   replay = λ w is zero. absurd (node_no_replay _ _ w c.in-Node.is is);
   replay_few = λ w is. absurd (node_no_replay _ _ w c.in-Node.is is);
   begun = λ w is one. absurd (node_no_replay _ _ w c.in-Node.is is);
-  node = λ w is zero. subst (λ (v : NodeWords). ServesNode (job_settings_of v.options) v.options.counted v.part (g.R.Read.remaining c.args.reader.now) (g.R.Read.remaining c.node_status.new.reader) (g.W.Write.contents c.args.writer.now) (g.W.Write.contents c.node_status.new.writer)) (same_node _ _ w c.in-Node.is is) (c.node_status.ensures.done zero);
+  node = λ w is zero. subst (λ (v : NodeWords). ServesNode (settings_of v.job.options) v.job.counted v.part (g.R.Read.remaining c.args.reader.now) (g.R.Read.remaining c.node_status.new.reader) (g.W.Write.contents c.args.writer.now) (g.W.Write.contents c.node_status.new.writer)) (same_node _ _ w c.in-Node.is is) (c.node_status.ensures.done zero);
   node_read = λ w is zero. c.node_status.ensures.read zero;
   node_written = λ w is zero. c.node_status.ensures.written zero;
   gather = λ w is zero. absurd (node_no_gather _ _ w c.in-Node.is is);
@@ -97,10 +97,10 @@ returns-in-Gather g c = record {
   node = λ w is zero. absurd (node_no_gather _ w _ is c.in-Gather.is);
   node_read = λ w is zero. absurd (node_no_gather _ w _ is c.in-Gather.is);
   node_written = λ w is zero. absurd (node_no_gather _ w _ is c.in-Gather.is);
-  gather = λ w is zero. subst (λ (v : GatherWords). GathersJob (job_settings_of v.options) v.options.counted (g.R.Read.remaining c.args.reader.now) (g.R.Read.remaining c.gather_status.new.reader) (g.W.Write.contents c.args.writer.now) (g.W.Write.contents c.gather_status.new.writer)) (same_gather _ _ w c.in-Gather.is is) (c.gather_status.ensures.done zero);
+  gather = λ w is zero. subst (λ (v : GatherWords). GathersJob (settings_of v.job.options) v.job.counted (g.R.Read.remaining c.args.reader.now) (g.R.Read.remaining c.gather_status.new.reader) (g.W.Write.contents c.args.writer.now) (g.W.Write.contents c.gather_status.new.writer)) (same_gather _ _ w c.in-Gather.is is) (c.gather_status.ensures.done zero);
   gather_read = λ w is zero. c.gather_status.ensures.read zero;
   gather_written = λ w is zero. c.gather_status.ensures.written zero;
-  gather_begun = λ w is one. subst (λ (v : GatherWords). WritesFrontOfJob (job_settings_of v.options) v.options.counted (g.R.Read.remaining c.args.reader.now) (g.R.Read.remaining c.gather_status.new.reader) (g.W.Write.contents c.args.writer.now) (g.W.Write.contents c.gather_status.new.writer)) (same_gather _ _ w c.in-Gather.is is) (c.gather_status.ensures.begun one);
+  gather_begun = λ w is one. subst (λ (v : GatherWords). WritesFrontOfJob (settings_of v.job.options) v.job.counted (g.R.Read.remaining c.args.reader.now) (g.R.Read.remaining c.gather_status.new.reader) (g.W.Write.contents c.args.writer.now) (g.W.Write.contents c.gather_status.new.writer)) (same_gather _ _ w c.in-Gather.is is) (c.gather_status.ensures.begun one);
   run_fault = λ said is one. absurd (run_no_gather _ said _ is c.in-Gather.is);
   replay_fault = λ w is one. absurd (gather_no_replay _ _ w c.in-Gather.is is);
   node_fault = λ w is one. absurd (node_no_gather _ w _ is c.in-Gather.is);

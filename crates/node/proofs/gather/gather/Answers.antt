@@ -3,7 +3,7 @@ use Rattle.ball_model.specs.Job.{job_of}
 use Rattle.node.specs.Gathering.{Gathers}
 use Rattle.std.proofs.Common.{refl, inl, inr}
 use Rattle.std.proofs.lemmas.Result.{IfErr-at_err, IfErr-weaker, err_from_is_err_and, on_err_weaker}
-use Rattle.node.specs.Job.{job_settings_of}
+use Rattle.edgelist.specs.Job.{settings_of}
 use Rattle.node.specs.NoReport.{HasNoReport, IsNoReport, WritesFront}
 use Rattle.node.proofs.GatherLemmas.{front_of_job}
 use Rattle.node.proofs.gather.gather.Goals as goal
@@ -30,7 +30,7 @@ pub returns-clause-refused : goal.returns-clause-refused
 returns-clause-refused g c =
     IfErr-weaker c.gather_parts-gathered.result
     (IsNoReport (job_of c.in_ok-graph.graph.graph c.in_ok-graph.plan) (g.R.Read.remaining c.read_job.new.reader) (g.R.Read.remaining c.gather_parts-gathered.new.reader))
-    (HasNoReport (job_settings_of c.args.options.now) c.args.options.now.counted (g.R.Read.remaining c.args.reader.now) (g.R.Read.remaining c.gather_parts-gathered.new.reader))
+    (HasNoReport (settings_of c.args.job.now.options) c.args.job.now.counted (g.R.Read.remaining c.args.reader.now) (g.R.Read.remaining c.gather_parts-gathered.new.reader))
     (λ e refused. inr (record {
       network = c.in_ok-graph.graph;
       plan = c.in_ok-graph.plan;
@@ -45,7 +45,7 @@ returns-clause-front g c =
     on_err_weaker c.gather_parts-gathered.result
     (λ (front : WritesFront (job_of c.in_ok-graph.graph.graph c.in_ok-graph.plan) c.in_ok-graph.graph.labels (g.R.Read.remaining c.read_job.new.reader) (g.R.Read.remaining c.gather_parts-gathered.new.reader)
     (g.W.Write.contents c.args.writer.now) (g.W.Write.contents c.gather_parts-gathered.new.writer)).
-    front_of_job (job_settings_of c.args.options.now) c.args.options.now.counted c.in_ok-graph.graph c.in_ok-graph.plan
+    front_of_job (settings_of c.args.job.now.options) c.args.job.now.counted c.in_ok-graph.graph c.in_ok-graph.plan
     (g.R.Read.remaining c.args.reader.now) (g.R.Read.remaining c.read_job.new.reader) (g.R.Read.remaining c.gather_parts-gathered.new.reader)
     (g.W.Write.contents c.args.writer.now) (g.W.Write.contents c.gather_parts-gathered.new.writer) c.in_ok-graph.ensures.read front)
     c.gather_parts-gathered.ensures.front

@@ -3,8 +3,9 @@ use Rattle.std.specs.Prelude.{Err}
 use Rattle.std.proofs.lemmas.Result.{err_from_is_err_and}
 use Rattle.ball_model.specs.Input.{Limits}
 use Rattle.ball_model.specs.RunText.{network_in, run_limits}
-use Rattle.node.specs.declared.job.JobOptions.{JobOptions}
-use Rattle.node.specs.Job.{GivesEdges, job_settings_of}
+use Rattle.edgelist.specs.declared.job.JobOptions.{JobOptions}
+use Rattle.edgelist.specs.Job.{settings_of}
+use Rattle.node.specs.Job.{GivesEdges}
 use Rattle.node.specs.NoJob.{IsNoNetwork}
 use Rattle.node.proofs.JobLemmas.{lacks_mark, refused_edges}
 use Rattle.node.proofs.job.read_edge_section.Goals as goal
@@ -17,41 +18,41 @@ pub returns-in-Ok-clause-says : goal.returns-in-Ok-clause-says
 returns-in-Ok-clause-says g c =
     let marked : c.in_ok-marked.marked ≡ true = c.in-Ok.ensures.ok in
     let s =
-    subst (λ (b : Bool). GivesEdges (asked c.args.options.now) c.args.options.now.delimiter (g.R.Read.remaining c.args.reader.now) (g.R.Read.remaining c.give_section.new.reader) c.give_section.new.edges b) marked
-    (c.in_ok-marked.ensures.given (asked c.args.options.now) c.args.options.now.delimiter c.in_ok-edges.ensures.ok) in
+    subst (λ (b : Bool). GivesEdges (asked c.args.job.now.options) c.args.job.now.options.delimiter (g.R.Read.remaining c.args.reader.now) (g.R.Read.remaining c.give_section.new.reader) c.give_section.new.edges b) marked
+    (c.in_ok-marked.ensures.given (asked c.args.job.now.options) c.args.job.now.options.delimiter c.in_ok-edges.ensures.ok) in
     record {
       input = s.front;
       section = s.section;
-      says = λ plain. c.in_ok-read.ensures.ok (asked c.args.options.now) c.args.options.now.delimiter s.front s.given plain;
+      says = λ plain. c.in_ok-read.ensures.ok (asked c.args.job.now.options) c.args.job.now.options.delimiter s.front s.given plain;
     }
 
 pub returns-in-Ok-clause-count : goal.returns-in-Ok-clause-count
 returns-in-Ok-clause-count g c =
     let marked : c.in_ok-marked.marked ≡ true = c.in-Ok.ensures.ok in
     let s =
-    subst (λ (b : Bool). GivesEdges (asked c.args.options.now) c.args.options.now.delimiter (g.R.Read.remaining c.args.reader.now) (g.R.Read.remaining c.give_section.new.reader) c.give_section.new.edges b) marked
-    (c.in_ok-marked.ensures.given (asked c.args.options.now) c.args.options.now.delimiter c.in_ok-edges.ensures.ok) in
+    subst (λ (b : Bool). GivesEdges (asked c.args.job.now.options) c.args.job.now.options.delimiter (g.R.Read.remaining c.args.reader.now) (g.R.Read.remaining c.give_section.new.reader) c.give_section.new.edges b) marked
+    (c.in_ok-marked.ensures.given (asked c.args.job.now.options) c.args.job.now.options.delimiter c.in_ok-edges.ensures.ok) in
     record {
       input = s.front;
       behind = g.R.Read.remaining c.give_section.new.reader;
       section = s.section;
-      says = λ plain. c.in_ok-read.ensures.count (asked c.args.options.now) c.args.options.now.delimiter s.front s.given plain;
+      says = λ plain. c.in_ok-read.ensures.count (asked c.args.job.now.options) c.args.job.now.options.delimiter s.front s.given plain;
     }
 
 pub returns-in-Err-clause-refused : goal.returns-in-Err-clause-refused
 returns-in-Err-clause-refused g c =
     let unmarked : c.in_ok-marked.marked ≡ false = c.in-Err.ensures.none.0 in
     let s =
-    subst (λ (b : Bool). GivesEdges (asked c.args.options.now) c.args.options.now.delimiter (g.R.Read.remaining c.args.reader.now) (g.R.Read.remaining c.give_section.new.reader) c.give_section.new.edges b) unmarked
-    (c.in_ok-marked.ensures.given (asked c.args.options.now) c.args.options.now.delimiter c.in_ok-edges.ensures.ok) in
-    subst (IsNoNetwork (network_in (job_settings_of c.args.options.now)) (g.R.Read.remaining c.args.reader.now)) (sym c.in-Err.ensures.none.1)
-    (lacks_mark (network_in (job_settings_of c.args.options.now)) (asked c.args.options.now) c.args.options.now.delimiter (g.R.Read.remaining c.args.reader.now) c.give_section.new.edges c.in_ok-read.read.graph s
-    (λ plain. c.in_ok-read.ensures.ok (asked c.args.options.now) c.args.options.now.delimiter s.front s.given plain))
+    subst (λ (b : Bool). GivesEdges (asked c.args.job.now.options) c.args.job.now.options.delimiter (g.R.Read.remaining c.args.reader.now) (g.R.Read.remaining c.give_section.new.reader) c.give_section.new.edges b) unmarked
+    (c.in_ok-marked.ensures.given (asked c.args.job.now.options) c.args.job.now.options.delimiter c.in_ok-edges.ensures.ok) in
+    subst (IsNoNetwork (network_in (settings_of c.args.job.now.options)) (g.R.Read.remaining c.args.reader.now)) (sym c.in-Err.ensures.none.1)
+    (lacks_mark (network_in (settings_of c.args.job.now.options)) (asked c.args.job.now.options) c.args.job.now.options.delimiter (g.R.Read.remaining c.args.reader.now) c.give_section.new.edges c.in_ok-read.read.graph s
+    (λ plain. c.in_ok-read.ensures.ok (asked c.args.job.now.options) c.args.job.now.options.delimiter s.front s.given plain))
 
 pub returns-in_err-read-clause-refused : goal.returns-in_err-read-clause-refused
 returns-in_err-read-clause-refused g c =
     let p = err_from_is_err_and c.from_residual-in_err-read.result c.from_residual-in_err-read.ensures.1 in
     rw (p.1, p.2)
-    (refused_edges (network_in (job_settings_of c.args.options.now)) (asked c.args.options.now) c.args.options.now.delimiter (g.R.Read.remaining c.args.reader.now) (g.R.Read.remaining c.give_section.new.reader) c.give_section.new.edges c.in_ok-marked.marked _
-    (λ e. c.in_err-read.ensures.read (ap Err e)) (c.in_ok-marked.ensures.given (asked c.args.options.now) c.args.options.now.delimiter c.in_ok-edges.ensures.ok)
-    (λ text given plain. c.in_err-read.ensures.refused (asked c.args.options.now) c.args.options.now.delimiter text given plain))
+    (refused_edges (network_in (settings_of c.args.job.now.options)) (asked c.args.job.now.options) c.args.job.now.options.delimiter (g.R.Read.remaining c.args.reader.now) (g.R.Read.remaining c.give_section.new.reader) c.give_section.new.edges c.in_ok-marked.marked _
+    (λ e. c.in_err-read.ensures.read (ap Err e)) (c.in_ok-marked.ensures.given (asked c.args.job.now.options) c.args.job.now.options.delimiter c.in_ok-edges.ensures.ok)
+    (λ text given plain. c.in_err-read.ensures.refused (asked c.args.job.now.options) c.args.job.now.options.delimiter text given plain))

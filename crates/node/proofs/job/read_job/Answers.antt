@@ -1,6 +1,5 @@
-use Rattle.node.specs.Job.{job_numbers_of}
 use Rattle.std.proofs.lemmas.Result.{err_from_is_err_and}
-use Rattle.node.specs.Job.{job_settings_of}
+use Rattle.edgelist.specs.Job.{numbers_of, settings_of}
 use Rattle.node.proofs.JobLemmas.{planned, unplanned}
 use Rattle.node.proofs.job.read_job.Goals as goal
 
@@ -10,12 +9,12 @@ returns-clause-read g c = record {
   mid = g.R.Read.remaining c.read_edge_section.new.reader;
   edges = c.in_ok-read.ensures.says;
   list = c.in_ok-count_listed.ensures.counts;
-  planned = planned (job_numbers_of c.args.options.now) c.count_listed.new.graph c.in_ok-plan.plan c.in_ok-plan.ensures.value;
+  planned = planned (numbers_of c.args.job.now.options) c.count_listed.new.graph c.in_ok-plan.plan c.in_ok-plan.ensures.value;
 }
 
 pub returns-in_err-plan-clause-refused : goal.returns-in_err-plan-clause-refused
 returns-in_err-plan-clause-refused g c =
     let p = err_from_is_err_and c.from_residual-in_err-plan.result c.from_residual-in_err-plan.ensures.1 in
     rw (p.1, p.2)
-    (unplanned (job_settings_of c.args.options.now) c.args.options.now.counted (g.R.Read.remaining c.args.reader.now) (g.R.Read.remaining c.read_edge_section.new.reader) (g.R.Read.remaining c.count_listed.new.reader)
+    (unplanned (settings_of c.args.job.now.options) c.args.job.now.counted (g.R.Read.remaining c.args.reader.now) (g.R.Read.remaining c.read_edge_section.new.reader) (g.R.Read.remaining c.count_listed.new.reader)
     c.in_ok-read.read.graph c.count_listed.new.graph _ c.in_ok-read.ensures.says c.in_ok-count_listed.ensures.counts c.in_err-plan.ensures.refused)

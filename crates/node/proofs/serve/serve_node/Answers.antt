@@ -1,5 +1,6 @@
 use Rattle.std.proofs.Common.{◌∙◌, Option, List, ℕ, inl, sym, subst}
-use Rattle.node.specs.Job.{IsJobRead, job_settings_of}
+use Rattle.edgelist.specs.Job.{settings_of}
+use Rattle.node.specs.Job.{IsJobRead}
 use Rattle.node.specs.NoJob.{HasNoNode}
 use Rattle.node.specs.declared.error.JobInputError.{JobInputError}
 use Rattle.node.proofs.JobLemmas.{no_start, told_job}
@@ -7,23 +8,23 @@ use Rattle.node.proofs.serve.serve_node.Goals as goal
 
 pub returns-clause-served : goal.returns-clause-served
 returns-clause-served g c =
-    c.serve_part-served.ensures.served (job_settings_of c.args.options.now) c.args.options.now.counted (g.R.Read.remaining c.args.reader.now) c.in_ok-graph.ensures.read
+    c.serve_part-served.ensures.served (settings_of c.args.job.now.options) c.args.job.now.counted (g.R.Read.remaining c.args.reader.now) c.in_ok-graph.ensures.read
 
 pub returns-clause-stopped : goal.returns-clause-stopped
 returns-clause-stopped g c =
-    c.serve_part-served.ensures.stopped (job_settings_of c.args.options.now) c.args.options.now.counted (g.R.Read.remaining c.args.reader.now) c.in_ok-graph.ensures.read
+    c.serve_part-served.ensures.stopped (settings_of c.args.job.now.options) c.args.job.now.counted (g.R.Read.remaining c.args.reader.now) c.in_ok-graph.ensures.read
 
 pub returns-in_err-graph-clause-refused : goal.returns-in_err-graph-clause-refused
 returns-in_err-graph-clause-refused g c =
     told_job c.from_residual.result _
-    (λ (e : JobInputError). HasNoNode (job_settings_of c.args.options.now) c.args.options.now.counted c.args.part (g.R.Read.remaining c.args.reader.now) (g.R.Read.remaining c.read_job.new.reader) e)
+    (λ (e : JobInputError). HasNoNode (settings_of c.args.job.now.options) c.args.job.now.counted c.args.part (g.R.Read.remaining c.args.reader.now) (g.R.Read.remaining c.read_job.new.reader) e)
     c.from_residual.ensures.1 (inl c.in_err-graph.ensures.refused)
 
 pub returns-clause-refused : goal.returns-clause-refused
 returns-clause-refused g c = λ e is.
-    no_start (job_settings_of c.args.options.now) c.args.options.now.counted c.args.part (g.R.Read.remaining c.args.reader.now) (g.R.Read.remaining c.serve_part-served.new.reader)
+    no_start (settings_of c.args.job.now.options) c.args.job.now.counted c.args.part (g.R.Read.remaining c.args.reader.now) (g.R.Read.remaining c.serve_part-served.new.reader)
     c.in_ok-graph.graph c.in_ok-graph.plan e
-    (subst (λ (left : Option (List ℕ)). IsJobRead (job_settings_of c.args.options.now) c.args.options.now.counted (g.R.Read.remaining c.args.reader.now) left c.in_ok-graph.graph c.in_ok-graph.plan)
+    (subst (λ (left : Option (List ℕ)). IsJobRead (settings_of c.args.job.now.options) c.args.job.now.counted (g.R.Read.remaining c.args.reader.now) left c.in_ok-graph.graph c.in_ok-graph.plan)
     (sym (c.serve_part-served.ensures.same e is)) c.in_ok-graph.ensures.read)
     (c.serve_part-served.ensures.refused e is)
 
@@ -35,4 +36,4 @@ returns-clause-counted g c = λ other none. c.serve_part-served.ensures.read.non
 
 pub returns-clause-wanting : goal.returns-clause-wanting
 returns-clause-wanting g c =
-    c.serve_part-served.ensures.wanting (job_settings_of c.args.options.now) c.args.options.now.counted (g.R.Read.remaining c.args.reader.now) c.in_ok-graph.ensures.read
+    c.serve_part-served.ensures.wanting (settings_of c.args.job.now.options) c.args.job.now.counted (g.R.Read.remaining c.args.reader.now) c.in_ok-graph.ensures.read

@@ -1,7 +1,7 @@
-use Rattle.std.proofs.Common.{◌∙◌, ◌++◌, ◌<◌, Bool, List, ℕ, ap, sym, subst}
+use Rattle.std.proofs.Common.{◌∙◌, ◌++◌, Bool, List, ℕ, ap, sym, subst}
 use Rattle.std.proofs.lemmas.Result.{err_from_is_err_and}
 use Rattle.ball_model.specs.State.{State}
-use Rattle.ball_model.specs.Streams.{PutsFront}
+use Rattle.ball_model.specs.Streams.{PutsFront, RisesByOne}
 use Rattle.report.specs.Parts.{head_text, lines_of_all, totals_in}
 use Rattle.report.proofs.FrontLemmas.{front_first}
 use Rattle.report.proofs.ReadyLemmas.{are_ready-facts}
@@ -44,7 +44,7 @@ returns-clause-counted g c = λ other.
 
 pub returns-clause-write : goal.returns-clause-write
 returns-clause-write g c = λ is.
-    subst (λ n. n < g.W.CountedWrite.failed_calls c.put_vertices.new.writer) c.in_ok-put_top.ensures.counted
+    subst (λ n. RisesByOne n (g.W.CountedWrite.failed_calls c.put_vertices.new.writer)) c.in_ok-put_top.ensures.counted
     (one_failed _ _ _ _ (lines_of_all c.args.graph.now c.args.replicas.now) c.put_vertices.result c.put_vertices.ensures is)
 
 pub returns-in_err-put_top-clause-front : goal.returns-in_err-put_top-clause-front

@@ -1,0 +1,8 @@
+use Rattle.std.proofs.Common.{ℕ, List, subst}
+use Rattle.edgelist.specs.Guessing.{StandsAt}
+use Rattle.edgelist.proofs.GuessLemmas.{with-label-at}
+use Rattle.edgelist.proofs.numbering.Numbering.look_up.Goals as goal
+
+pub returns-in-Some-clause-labels : goal.returns-in-Some-clause-labels
+returns-in-Some-clause-labels c =
+    with-label-at c.args.self.now c.args.label.now c.in-Some.number (subst (λ (ls : List (List ℕ)). StandsAt ls c.args.label.now c.in-Some.number) c.self.view_is c.in-Some.ensures.found)

@@ -1,0 +1,12 @@
+use Rattle.std.proofs.Common.{◌≤◌, ℕ, List}
+use Rattle.edgelist.specs.Reading.{AreWithin, byte_of, limits_of}
+use Rattle.edgelist.specs.Rounds.{AreOn}
+use Rattle.edgelist.proofs.rounds.Rounds.read_rounds.Given as goal
+
+abbrev pub invariant-loop-turn : goal.invariant-loop-turn
+invariant-loop-turn g l = record {
+  in_range : l.number ≤ l.self.limits.edges;
+  within : AreWithin l.self.limits.vertices l.number l.reading.labels l.reading.edges.items;
+  on : (text : List ℕ) → AreOn (limits_of l.self.limits) (byte_of l.self.delimiter) text 0 l.initial.reading.labels l.initial.reading.edges.items l.initial.pieces l.initial.held.bytes.items (g.S.Read.remaining l.initial.reader) →
+      AreOn (limits_of l.self.limits) (byte_of l.self.delimiter) text l.number l.reading.labels l.reading.edges.items l.pieces l.held.bytes.items (g.S.Read.remaining l.reader);
+}

@@ -1,0 +1,36 @@
+-- What is asked of a job, and what the refusals of its edge list and of its list of counted vertices say.
+use Rattle.std.specs.Prelude.{ℕ, List, Option, IfSome, IsOk}
+use Rattle.std.specs.Borrow.{Bor}
+use Rattle.ball_model.specs.RunText.{ArePlain, Numbers, Settings, list_in, network_in}
+use Rattle.edgelist.specs.Counting.{IsListRefusal}
+use Rattle.edgelist.specs.Planning.{is_corrected, numbers_with}
+use Rattle.edgelist.specs.Reading.{Refuses, byte_of}
+use Rattle.edgelist.specs.declared.job.JobOptions.{JobOptions}
+use Rattle.edgelist.specs.declared.job.NetworkError.{NetworkError}
+use Rattle.edgelist.specs.declared.job.NetworkError.TheVariants as fault
+
+-- what the plan is asked for by
+abbrev pub numbers_of : JobOptions → Numbers
+numbers_of o =
+    record (numbers_with (is_corrected o.estimate) o.log2m o.seed o.parts o.limit)
+    { large = o.large }
+
+-- what the plan is asked for by, and the byte between the fields of a line
+abbrev pub settings_of : JobOptions → Settings
+settings_of o = record { numbers = numbers_of o; delimiter = byte_of o.delimiter }
+
+-- where a reader tells its bytes, and these and the list are plain, this holds of them
+abbrev pub WherePlain : Option (List ℕ) → Option (Bor (List ℕ)) →
+    (List ℕ → Option (List ℕ) → Type 0) → Type 0
+WherePlain told counted holds = IfSome told (λ input.
+    ArePlain input (list_in counted) → holds input (list_in counted))
+
+-- what a refusal says of the network, as far as it was read
+abbrev pub RefusesRead : Settings → List ℕ → Option (List ℕ) → NetworkError → Type 0
+RefusesRead s input list (fault.Edges e) = Refuses (network_in s input) e
+RefusesRead s input list (fault.Counted e) = IsListRefusal s input list e
+
+-- what a refusal says of the edge list, whatever the list of counted vertices is
+abbrev pub RefusesEdges : Settings → List ℕ → NetworkError → Type 0
+RefusesEdges s input (fault.Edges e) = Refuses (network_in s input) e
+RefusesEdges s input (fault.Counted e) = IsOk (network_in s input)

@@ -1,0 +1,352 @@
+//! Edge lists that are read piece by piece: threads cut the records of some pieces into fields, while one adds those of
+//! the pieces before, in order.
+
+ghost use Rattle.std.specs.Prelude.{◌≡◌, ◌≢◌, ◌<◌, ◌≤◌, ◌++◌, ℕ, List, Result, length, slice_index_or};
+ghost use Rattle.std.specs.Prelude.{Err, IfErr, IfOk, Ok, OnOk};
+ghost use Rattle.std.specs.List.{All, flat_map};
+ghost use Rattle.std.specs.Thread.{IsSync};
+ghost use Rattle.ball_model.specs.Input.{IsPlain, Network, Refusal, most_records, network_from, records};
+ghost use Rattle.ball_model.specs.PlanValue.{most_vertices};
+ghost use Rattle.edgelist.specs.Pieces.{IsDone, IsOn, IsThrough};
+ghost use Rattle.edgelist.specs.Reading.{AreWithin, CountsOne, Refuses, byte_of, limits_of};
+ghost use Rattle.edgelist.specs.Reading.{meaning_within};
+ghost use Rattle.edgelist.specs.Records.{ForPlain};
+ghost use Rattle.edgelist.specs.Rounds.{AreOn, IsSameText, has_no_lines, has_plain_lines};
+ghost use Rattle.edgelist.specs.declared.piece.Piece.{Piece};
+ghost use Rattle.edgelist.specs.Rounds.{records_of};
+
+use crate::piece::{Gives, Held, Piece};
+use crate::read::{Delimiter, EdgeError, EdgeLimits, EdgeList, Reading, read_answer};
+use crate::watch::Watch;
+use ball_model::CountedRead;
+use std::alloc::{AllocError, AllocGlobal, Global};
+use std::hash::RandomState;
+use std::thread;
+use std::thread::Threads;
+
+/// The bytes of a piece.
+pub(crate) const PIECE: usize = 131_072;
+
+// So many pieces are cut side by side, at most.
+const MOST_PIECES: usize = 8;
+
+// Adds the records of pieces in their order, which follow `number` others, and tells how many there are then.
+fn add_pieces(
+    alloc: Global,
+    reading: &mut Reading,
+    pieces: &[Piece],
+    number: u64,
+    limits: EdgeLimits,
+) -> Result<u64, EdgeError>
+    requires few { limits.edges ≤ most_records }
+    requires number { number ≤ limits.edges }
+    requires within { AreWithin limits.vertices number
+        reading.old.labels reading.old.edges.items }
+    ensures number { IfOk result (λ n. n ≤ limits.edges) }
+    ensures within { IfOk result (λ n. AreWithin limits.vertices n
+        reading.new.labels reading.new.edges.items) }
+    ensures ok { (before : List (List (List ℕ))) → All has_plain_lines pieces.now →
+        IsThrough (limits_of limits) number before reading.old.labels reading.old.edges.items →
+        IfOk result (λ n. IsThrough (limits_of limits) n
+        (before ++ flat_map records_of pieces.now) reading.new.labels reading.new.edges.items) }
+    ensures refused { (before more : List (List (List ℕ))) → All has_plain_lines pieces.now →
+        IsThrough (limits_of limits) number before reading.old.labels reading.old.edges.items →
+        IfErr result (Refuses (network_from (limits_of limits)
+        (before ++ (flat_map records_of pieces.now ++ more)))) }
+    ensures read { result ≢ Err EdgeError.Read }
+{
+    let mut n = number;
+    for i in 0..pieces.len() {
+        n = pieces[i].add_to(alloc, reading, n, limits)?;
+    }
+    Ok(n)
+}
+
+// Cuts the records of pieces into fields, by so many threads.
+fn cut_pieces<R: Threads + Sync>(rt: &R, alloc: Global, pieces: &mut [Piece], threads: usize)
+    requires { 0 < threads }
+    ensures { (i : ℕ) (d : Piece) → i < length pieces.old →
+        IsSameText (slice_index_or pieces.old i d) (slice_index_or pieces.new i d) }
+{
+    thread::for_each_mut(
+        rt,
+        pieces,
+        threads,
+        &|_, piece: &mut Piece| piece.cut(alloc),
+    );
+}
+
+// How many records of some pieces were cut.
+fn count(pieces: &[Piece]) -> usize {
+    let mut count = 0usize;
+    for piece in pieces {
+        count = count.saturating_add(piece.len());
+    }
+    count
+}
+
+// Adds the records of some pieces while those of others are cut, by so many threads. Room for the edges is made before
+// these threads take memory: a table that grows then stays where it is more often.
+fn add_and_cut<R: AllocGlobal + Threads + Sync>(
+    rt: &R,
+    reading: &mut Reading,
+    pieces: &[Piece],
+    coming: &mut [Piece],
+    number: u64,
+    limits: EdgeLimits,
+    threads: usize,
+) -> Result<u64, EdgeError>
+    requires threads { 0 < threads }
+    requires few { limits.edges ≤ most_records }
+    requires number { number ≤ limits.edges }
+    requires within { AreWithin limits.vertices number
+        reading.old.labels reading.old.edges.items }
+    ensures cut { (i : ℕ) (d : Piece) → i < length coming.old →
+        IsSameText (slice_index_or coming.old i d) (slice_index_or coming.new i d) }
+    ensures number { IfOk result (λ n. n ≤ limits.edges) }
+    ensures within { IfOk result (λ n. AreWithin limits.vertices n
+        reading.new.labels reading.new.edges.items) }
+    ensures ok { (before : List (List (List ℕ))) → All has_plain_lines pieces.now →
+        IsThrough (limits_of limits) number before reading.old.labels reading.old.edges.items →
+        IfOk result (λ n. IsThrough (limits_of limits) n
+        (before ++ flat_map records_of pieces.now) reading.new.labels reading.new.edges.items) }
+    ensures refused { (before more : List (List (List ℕ))) → All has_plain_lines pieces.now →
+        IsThrough (limits_of limits) number before reading.old.labels reading.old.edges.items →
+        IfErr result (Refuses (network_from (limits_of limits)
+        (before ++ (flat_map records_of pieces.now ++ more)))) }
+{
+    let alloc = rt.alloc();
+    reading.make_room(count(pieces));
+    let mut cut = ||
+        requires { IsSync R.row × (0 < threads) }
+        ensures { (i : ℕ) (d : Piece) → i < length coming.entry.now → IsSameText
+            (slice_index_or coming.entry.now i d) (slice_index_or coming.exit.now i d) }
+    { cut_pieces(rt, alloc, coming, threads) };
+    let mut add = || add_pieces(alloc, reading, pieces, number, limits);
+    let (_, added) = thread::join_mut(rt, &mut cut, &mut add);
+    added
+}
+
+// Fills pieces with the next lines of a reader, and tells what the last call of the reader gave.
+fn fill_pieces<S: CountedRead>(
+    pieces: &mut [Piece],
+    reader: &mut S,
+    held: &mut Held,
+    delimiter: Delimiter,
+    size: usize,
+) -> Result<Gives, EdgeError>
+    ensures on { (text : List ℕ) (done : List (List (List ℕ))) →
+        IsOn (byte_of delimiter) text done held.old.bytes.items (S.remaining reader.old) →
+        OnOk result (IsOn (byte_of delimiter) text (done ++ flat_map records_of pieces.new)
+        held.new.bytes.items (S.remaining reader.new)) }
+    ensures plain { (text : List ℕ) (done : List (List (List ℕ))) →
+        IsOn (byte_of delimiter) text done held.old.bytes.items (S.remaining reader.old) →
+        OnOk result (All has_plain_lines pieces.new) }
+    ensures end { IfOk result (λ gives. gives ≡ Gives.Nothing →
+        IsDone held.new.bytes.items (S.remaining reader.new)) }
+    ensures failed { IfErr result (λ e. (says : Result Network Refusal) → Refuses says e) }
+{
+    let mut gives = Gives::Much;
+    for i in 0..pieces.len() {
+        gives = pieces[i].fill_more(reader, held, delimiter, size, gives)?;
+    }
+    Ok(gives)
+}
+
+// Pieces with no lines.
+fn pieces_for(alloc: Global, delimiter: Delimiter, count: usize) -> Result<Vec<Piece>, AllocError>
+    ensures { IfOk result (λ pieces. All has_no_lines pieces.items) }
+{
+    let mut pieces = Vec::with_capacity(alloc, count)?;
+    for _i in 0..count {
+        pieces.push(Piece::new(alloc, delimiter))?;
+    }
+    Ok(pieces)
+}
+
+/// How an edge list is read piece by piece.
+#[derive(Drop)]
+pub(crate) struct Rounds<'a, R, W> {
+    pub(crate) rt: &'a R,
+    /// It is told how many records were added after each round.
+    pub(crate) watch: &'a W,
+    pub(crate) delimiter: Delimiter,
+    pub(crate) limits: EdgeLimits,
+    /// The bytes of a piece.
+    pub(crate) size: usize,
+    /// One adds records, and the others cut them.
+    pub(crate) threads: usize,
+}
+
+impl<'a, R: AllocGlobal + Threads + Sync, W: Watch> Rounds<'a, R, W> {
+    // Fills and cuts pieces while the records of others are added. Tells how many records there are then, and what the
+    // last call of the reader gave.
+    fn take_turn<S: CountedRead>(
+        &self,
+        reading: &mut Reading,
+        number: u64,
+        pieces: &[Piece],
+        coming: &mut [Piece],
+        reader: &mut S,
+        held: &mut Held,
+    ) -> Result<(u64, Gives), EdgeError>
+        requires threads { 2 ≤ self.now.threads }
+        requires few { self.now.limits.edges ≤ most_records }
+        requires number { number ≤ self.now.limits.edges }
+        requires within { AreWithin self.now.limits.vertices number
+            reading.old.labels reading.old.edges.items }
+        ensures number { IfOk result (λ r. r.0 ≤ self.now.limits.edges) }
+        ensures within { IfOk result (λ r. AreWithin self.now.limits.vertices r.0
+            reading.new.labels reading.new.edges.items) }
+        ensures on { (text : List ℕ) →
+            AreOn (limits_of self.now.limits) (byte_of self.now.delimiter) text number
+            reading.old.labels reading.old.edges.items pieces.now held.old.bytes.items
+            (S.remaining reader.old) → IfOk result (λ r.
+            AreOn (limits_of self.now.limits) (byte_of self.now.delimiter) text r.0
+            reading.new.labels reading.new.edges.items coming.new held.new.bytes.items
+            (S.remaining reader.new)) }
+        ensures end { IfOk result (λ r. r.1 ≡ Gives.Nothing →
+            IsDone held.new.bytes.items (S.remaining reader.new)) }
+        ensures refused { (text : List ℕ) →
+            AreOn (limits_of self.now.limits) (byte_of self.now.delimiter) text number
+            reading.old.labels reading.old.edges.items pieces.now held.old.bytes.items
+            (S.remaining reader.old) → IfErr result (Refuses (network_from
+            (limits_of self.now.limits) (records (byte_of self.now.delimiter) text))) }
+    {
+        let gives = fill_pieces(coming, reader, held, self.delimiter, self.size)?;
+        let cutting = self.threads - 1;
+        let n = add_and_cut(
+            self.rt,
+            reading,
+            pieces,
+            coming,
+            number,
+            self.limits,
+            cutting,
+        )?;
+        self.watch.while_read(n);
+        Ok((n, gives))
+    }
+
+    // Reads all records, and tells how many there are. Some pieces are filled while others are added, in turn.
+    fn read_rounds<S: CountedRead>(
+        &self,
+        reading: &mut Reading,
+        pieces: &mut [Piece],
+        coming: &mut [Piece],
+        reader: &mut S,
+        held: &mut Held,
+    ) -> Result<u64, EdgeError>
+        requires threads { 2 ≤ self.now.threads }
+        requires few { self.now.limits.edges ≤ most_records }
+        requires within { AreWithin self.now.limits.vertices 0
+            reading.old.labels reading.old.edges.items }
+        ensures within { IfOk result (λ n.
+            AreWithin self.now.limits.vertices self.now.limits.edges
+            reading.new.labels reading.new.edges.items) }
+        ensures ok { (text : List ℕ) →
+            AreOn (limits_of self.now.limits) (byte_of self.now.delimiter) text 0
+            reading.old.labels reading.old.edges.items pieces.old held.old.bytes.items
+            (S.remaining reader.old) → IfOk result (λ n.
+            IsThrough (limits_of self.now.limits) n (records (byte_of self.now.delimiter) text)
+            reading.new.labels reading.new.edges.items) }
+        ensures refused { (text : List ℕ) →
+            AreOn (limits_of self.now.limits) (byte_of self.now.delimiter) text 0
+            reading.old.labels reading.old.edges.items pieces.old held.old.bytes.items
+            (S.remaining reader.old) → IfErr result (Refuses (network_from
+            (limits_of self.now.limits) (records (byte_of self.now.delimiter) text))) }
+    {
+        let alloc = self.rt.alloc();
+        let mut number = 0;
+        for _turn in 0..u64::MAX {
+            let (n, gives) = self.take_turn(reading, number, pieces, coming, reader, held)?;
+            if gives == Gives::Nothing {
+                return add_pieces(alloc, reading, coming, n, self.limits);
+            }
+            let (n, gives) = self.take_turn(reading, n, coming, pieces, reader, held)?;
+            if gives == Gives::Nothing {
+                return add_pieces(alloc, reading, pieces, n, self.limits);
+            }
+            number = n;
+        }
+        Err(EdgeError::Memory)
+    }
+
+    // Reads all records, and tells how many there are.
+    fn read_source<S: CountedRead>(
+        &self,
+        state: RandomState,
+        reader: &mut S,
+    ) -> Result<(Reading, u64), EdgeError>
+        requires threads { 2 ≤ self.now.threads }
+        requires few { self.now.limits.edges ≤ most_records }
+        ensures within { IfOk result (λ both.
+            AreWithin self.now.limits.vertices self.now.limits.edges
+            both.0.labels both.0.edges.items) }
+        ensures ok { ForPlain (S.remaining reader.old) (λ text. IfOk result (λ both.
+            IsThrough (limits_of self.now.limits) both.1
+            (records (byte_of self.now.delimiter) text) both.0.labels both.0.edges.items)) }
+        ensures refused { ForPlain (S.remaining reader.old) (λ text. IfErr result
+            (Refuses (meaning_within self.now.limits self.now.delimiter text))) }
+    {
+        let alloc = self.rt.alloc();
+        let count = MOST_PIECES.min(self.threads - 1);
+        let mut pieces = pieces_for(alloc, self.delimiter, count)?;
+        let mut coming = pieces_for(alloc, self.delimiter, count)?;
+        let mut held = Held::new(alloc)?;
+        let mut reading = Reading::new(alloc, state)?;
+        let number = self.read_rounds(&mut reading, &mut pieces, &mut coming, reader, &mut held)?;
+        Ok((reading, number))
+    }
+
+    // Reads all records, and makes their graph.
+    fn read_graph<S: CountedRead>(
+        &self,
+        state: RandomState,
+        reader: &mut S,
+    ) -> Result<EdgeList, EdgeError>
+        requires threads { 2 ≤ self.now.threads }
+        requires vertices { self.now.limits.vertices ≤ most_vertices }
+        requires edges { self.now.limits.edges ≤ most_records }
+        ensures ok { ForPlain (S.remaining reader.old) (λ text. IfOk result (λ list.
+            meaning_within self.now.limits self.now.delimiter text ≡ Ok list.graph)) }
+        ensures count { ForPlain (S.remaining reader.old) (λ text. IfOk result (λ list.
+            list.records ≡ length (records (byte_of self.now.delimiter) text))) }
+        ensures refused { ForPlain (S.remaining reader.old) (λ text. IfErr result
+            (Refuses (meaning_within self.now.limits self.now.delimiter text))) }
+    {
+        let (reading, number) = self.read_source(state, reader)?;
+        reading.into_list_by(self.rt, number, self.threads)
+    }
+
+    /// Reads an edge list: while one thread adds the records of some pieces, in order, the others cut those of the next
+    /// pieces into fields. It answers `Read` if a call of the reader failed (while failures can be counted), and at
+    /// no other time.
+    ///
+    /// Up to two rounds of pieces are asked for beyond the record that is refused. If a read fails there, `Read` is
+    /// answered. Each piece takes some 1 MiB.
+    pub(crate) fn read<S: CountedRead>(
+        &self,
+        state: RandomState,
+        reader: &mut S,
+    ) -> Result<EdgeList, EdgeError>
+        requires threads { 2 ≤ self.now.threads }
+        requires vertices { self.now.limits.vertices ≤ most_vertices }
+        requires edges { self.now.limits.edges ≤ most_records }
+        ensures ok { ForPlain (S.remaining reader.old) (λ text. IfOk result (λ list.
+            meaning_within self.now.limits self.now.delimiter text ≡ Ok list.graph)) }
+        ensures count { ForPlain (S.remaining reader.old) (λ text. IfOk result (λ list.
+            list.records ≡ length (records (byte_of self.now.delimiter) text))) }
+        ensures refused { ForPlain (S.remaining reader.old) (λ text. IfErr result
+            (Refuses (meaning_within self.now.limits self.now.delimiter text))) }
+        ensures read { result ≡ Err EdgeError.Read →
+            S.failed_calls reader.old < S.failed_calls reader.new }
+        ensures failed { CountsOne (S.failed_calls reader.old) (S.failed_calls reader.new) →
+            result ≡ Err EdgeError.Read }
+    {
+        let before = reader.failures();
+        let result = self.read_graph(state, reader);
+        let failed = reader.failures() > before;
+        read_answer(result, failed)
+    }
+}

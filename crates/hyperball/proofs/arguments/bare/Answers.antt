@@ -1,5 +1,0 @@
-use Rattle.std.proofs.Common.{rules}
-use Rattle.hyperball.proofs.arguments.bare.Goals as goal
-
-pub returns : goal.returns
-returns c = record { form = search rules; local = search rules }

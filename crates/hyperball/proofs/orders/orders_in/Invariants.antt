@@ -1,8 +1,0 @@
-use Rattle.hyperball.proofs.OrderLemmas.{OrdersSoFar}
-use Rattle.hyperball.proofs.orders.orders_in.Given as goal
-
-abbrev pub invariant-loop-piece : goal.invariant-loop-piece
-invariant-loop-piece l =
-    (goal.iterator-loop-piece).can_next l.piece-iterator ×
-    (goal.iterator-loop-piece).is_finite l.piece-iterator ×
-    OrdersSoFar l.yielded l.orders.items
