@@ -299,7 +299,6 @@ impl<'a, C: Clock, T: Teller> Gate for TellingGate<'a, C, T> {
     fn idle(&self, node: NodeId) {
         self.sleeping.idle(node);
     }
-
 }
 
 impl<'a, C: Clock, T: Teller> Watch for TellingGate<'a, C, T> {
