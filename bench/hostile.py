@@ -310,12 +310,16 @@ def growth_refused(shim):
 
 
 def reading_refused(shim):
-    """An edge list of several pieces, which threads cut: whichever allocation or thread is refused, the report is the same,
-    or the run says that memory was refused and has written nothing."""
-    words, data = [*RUN, "--threads", "4"], EDGES * 200000
+    """Edge lists of several pieces, which threads cut, and one with so many distinct edges that threads code its lists:
+    whichever allocation or thread is refused, the report is the same, or the run says that memory was refused and has
+    written nothing."""
+    coded = "".join(f"{v}\t{w}\n" for v in range(200) for w in range(200)).encode()
+    short = ["run", "--log2m", "4", "--limit", "1"]
+    lists = ("cut", RUN, EDGES * 200000, REPORT), ("coded", short, coded, ran([*short, "--threads", "1"], coded)[1])
     for kind, variable in ("memory", "REFUSE_ALLOC"), ("a thread", "REFUSE_THREAD"):
-        each_call(f"{kind} refused: reading by threads", words, data, shim, variable,
-                  lambda *answer: answer in [(1, b"", b"hyperball: out of memory\n"), (0, REPORT, b"")])
+        for done, words, data, report in lists:
+            each_call(f"{kind} refused: a list {done} by threads", [*words, "--threads", "4"], data, shim, variable,
+                      lambda *answer, report=report: answer in [(1, b"", b"hyperball: out of memory\n"), (0, report, b"")])
 
 
 def refused_in_threads(shim):

@@ -8,6 +8,7 @@ pub mod RecordLemmas
 pub mod PieceLemmas
 pub mod GivenLemmas
 pub mod FindLemmas
+pub mod CodesLemmas
 pub mod CountLemmas
 pub mod LinksLemmas
 pub mod EdgeLemmas

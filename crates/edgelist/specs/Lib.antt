@@ -7,6 +7,7 @@ pub mod Guessing
 pub mod Finding
 pub mod Records
 pub mod Reading
+pub mod Codes
 pub mod Counting
 pub mod Planning
 pub mod Laws

@@ -1,6 +1,6 @@
 //! What is asked of a job, and what it is over a graph.
 
-ghost use Rattle.std.specs.Prelude.{◌≡◌, [], Ok, Err, IfErr, IfOk, IfSome, IsOk, OnErr, OnOk, length};
+ghost use Rattle.std.specs.Prelude.{◌≡◌, ◌<◌, [], Ok, Err, IfErr, IfOk, IfSome, IsOk, OnErr, OnOk, length};
 ghost use Rattle.ball_model.specs.Input.{IsPlain, records};
 ghost use Rattle.ball_model.specs.Job.{IsJob, job_of};
 ghost use Rattle.ball_model.specs.RunText.{AreRead, counted_in, list_in, network_in, plan_asked};
@@ -131,7 +131,10 @@ impl JobOptions {
 
     /// How many threads work on the job: as many as are asked for, or else one a processor, or one if that number cannot be
     /// told.
-    pub fn threads_for<R: Threads>(&self, rt: &R) -> usize {
+    pub fn threads_for<R: Threads>(&self, rt: &R) -> usize
+        ensures asked { 0 < self.now.threads → result ≡ self.now.threads }
+        ensures some { 0 < result }
+    {
         if self.threads > 0 {
             return usize::from(self.threads);
         }

@@ -18,6 +18,7 @@
 #![tactic(auto)]
 
 mod build;
+mod codes;
 mod counting;
 mod cut;
 mod digest;

@@ -15,11 +15,20 @@ use crate::row::{AT_ONCE, Row, rows_for};
 use ball_model::CountedRead;
 use std::alloc::{AllocError, Global};
 
-// So many bytes are taken, whatever the reader gives at once.
-const LEAST: usize = 16_384;
+/// So many bytes are waited for where none are there to be added meanwhile.
+pub(crate) const LEAST: usize = 16_384;
 
-// So many are asked for by one read.
+// So many are asked for by one read, at most.
 const ROOM: usize = 65_536;
+
+/// How many bytes a piece takes of a reader.
+#[derive(Clone, Copy)]
+pub(crate) struct Amount {
+    /// So many, also if the next ones may not be there yet.
+    pub(crate) least: usize,
+    /// So many, or some more, where the reader gives them at once.
+    pub(crate) most: usize,
+}
 
 /// What the last call of a reader gave.
 #[derive(Clone, Copy, PartialEq, Eq)]
@@ -45,38 +54,12 @@ pub(crate) struct Piece {
     ghost so: { is_cut ≡ true → IsPlain lines.items → cut ≡ records (byte_of delimiter) lines.items },
 }
 
-// Puts what one read gives behind the bytes that are held, and tells how much that was.
+// Puts what one read gives after the bytes that are held, and tells how much that was. `most` bytes are asked for, or as
+// many as there is room for.
 fn take_some<S: CountedRead>(
     reader: &mut S,
     buf: &mut [u8],
     lines: &mut Vec<u8>,
-) -> Result<Gives, EdgeError>
-    requires { 0 < length buf.old }
-    ensures fills { OnOk result (Fills (S.remaining reader.old) (S.remaining reader.new)
-        lines.old.items lines.new.items) }
-    ensures end { IfOk result (λ gives. gives ≡ Gives.Nothing → IsAtEnd (S.remaining reader.new)) }
-    ensures failed { IfErr result (λ e. (says : Result Network Refusal) → Refuses says e) }
-{
-    let Some(n) = reader.get(buf) else {
-        return Err(EdgeError::Read);
-    };
-    lines.extend_from_slice(&buf[..n])?;
-    if n == 0 {
-        return Ok(Gives::Nothing);
-    }
-    if n < buf.len() {
-        return Ok(Gives::Little);
-    }
-    Ok(Gives::Much)
-}
-
-// Puts bytes behind those that are held until there are `most`, or `least` and the next ones may not be there yet, or
-// all are read.
-fn fill<S: CountedRead>(
-    reader: &mut S,
-    buf: &mut [u8],
-    lines: &mut Vec<u8>,
-    least: usize,
     most: usize,
 ) -> Result<Gives, EdgeError>
     requires { 0 < length buf.old }
@@ -85,12 +68,38 @@ fn fill<S: CountedRead>(
     ensures end { IfOk result (λ gives. gives ≡ Gives.Nothing → IsAtEnd (S.remaining reader.new)) }
     ensures failed { IfErr result (λ e. (says : Result Network Refusal) → Refuses says e) }
 {
+    let asked = buf.len().min(most).max(1);
+    let Some(n) = reader.get(&mut buf[..asked]) else {
+        return Err(EdgeError::Read);
+    };
+    lines.extend_from_slice(&buf[..n])?;
+    if n == 0 {
+        return Ok(Gives::Nothing);
+    }
+    if n < asked {
+        return Ok(Gives::Little);
+    }
+    Ok(Gives::Much)
+}
+
+// Puts bytes after those that are held until there are as many as are wanted, or at least so many and the next ones may
+// not be there yet, or all are read.
+fn fill<S: CountedRead>(
+    reader: &mut S,
+    buf: &mut [u8],
+    lines: &mut Vec<u8>,
+    amount: Amount,
+) -> Result<Gives, EdgeError>
+    requires { 0 < length buf.old }
+    ensures fills { OnOk result (Fills (S.remaining reader.old) (S.remaining reader.new)
+        lines.old.items lines.new.items) }
+    ensures end { IfOk result (λ gives. gives ≡ Gives.Nothing → IsAtEnd (S.remaining reader.new)) }
+    ensures failed { IfErr result (λ e. (says : Result Network Refusal) → Refuses says e) }
+{
     for _turn in 0..u64::MAX {
-        let gives = take_some(reader, buf, lines)?;
-        if gives == Gives::Nothing
-            || lines.len() >= most
-            || gives == Gives::Little && lines.len() >= least
-        {
+        let gives = take_some(reader, buf, lines, amount.most)?;
+        let most = if gives == Gives::Much { amount.most } else { 0 };
+        if gives == Gives::Nothing || lines.len() >= most.max(amount.least) {
             return Ok(gives);
         }
     }
@@ -129,7 +138,7 @@ fn hold_from(lines: &mut Vec<u8>, held: &mut Vec<u8>, end: usize) -> Result<(), 
 #[derive(Drop)]
 pub(crate) struct Held {
     bytes: Vec<u8>,
-    // room for what one read gives
+    // room for what one read gives at most
     buf: Vec<u8>,
     ghost so: { 0 < length buf.items },
 }
@@ -169,15 +178,15 @@ impl Piece {
         self.is_cut = false;
     }
 
-    /// Takes lines that are held and lines of a reader in place of its own, `size` bytes or some more where the reader
-    /// gives them at once, or none if no line ends among these; what stands behind the last line's end is held then. It tells what
-    /// the last call of the reader gave.
+    /// Takes lines that are held and so many bytes of a reader in place of its own lines, or none if no line ends among
+    /// these; what stands after the last line's end is held then. A line that is longer than that takes more. It tells
+    /// what the last call of the reader gave.
     pub(crate) fn fill<S: CountedRead>(
         &mut self,
         reader: &mut S,
         held: &mut Held,
         delimiter: Delimiter,
-        size: usize,
+        amount: Amount,
     ) -> Result<Gives, EdgeError>
         ensures on { (text : List ℕ) (done : List (List (List ℕ))) →
             IsOn (byte_of delimiter) text done held.old.bytes.items (S.remaining reader.old) →
@@ -194,9 +203,11 @@ impl Piece {
         self.delimiter = delimiter;
         self.lines.clear();
         self.lines.extend_from_slice(&held.bytes)?;
-        let twice = held.bytes.len().saturating_mul(2);
-        let (least, most) = (twice.max(LEAST.min(size)), twice.max(size));
-        let gives = fill(reader, &mut held.buf, &mut self.lines, least, most)?;
+        let wanted = Amount {
+            least: amount.least.max(held.bytes.len().saturating_mul(2)),
+            most: amount.most,
+        };
+        let gives = fill(reader, &mut held.buf, &mut self.lines, wanted)?;
         if gives == Gives::Nothing {
             held.bytes.clear();
         } else {
@@ -212,7 +223,7 @@ impl Piece {
         reader: &mut S,
         held: &mut Held,
         delimiter: Delimiter,
-        size: usize,
+        amount: Amount,
         gives: Gives,
     ) -> Result<Gives, EdgeError>
         ensures on { (text : List ℕ) (done : List (List (List ℕ))) →
@@ -231,7 +242,7 @@ impl Piece {
             self.clear();
             return Ok(gives);
         }
-        self.fill(reader, held, delimiter, size)
+        self.fill(reader, held, delimiter, amount)
     }
 
     /// Cuts the records of its lines into fields, if each of them has the form of one and there is memory.

@@ -577,7 +577,23 @@ impl Reading {
         sort_parts(rt, &mut self.edges, threads);
     }
 
-    /// The edge list that was read, of so many records, whose edges so many threads sort.
+    // The graph that `into_graph` tells, by so many threads.
+    fn into_graph_by<R: AllocGlobal + Threads + Sync>(
+        self,
+        rt: &R,
+        threads: usize,
+    ) -> Result<Graph, AllocError>
+        requires within { AreWithin most_vertices most_records self.labels self.edges.items }
+        ensures graph { IfOk result (λ g.
+            g.graph ≡ graph_of_edges (length self.labels) self.edges.items) }
+        ensures labels { IfOk result (λ g. g.labels ≡ self.labels) }
+    {
+        let Reading { labels, edges } = self;
+        let labels = labels.into_labels(rt.alloc())?;
+        Graph::of_edges_by(rt, rt.alloc(), labels, edges, threads)
+    }
+
+    /// The edge list that was read, of so many records, whose edges so many threads sort and code.
     pub(crate) fn into_list_by<R: AllocGlobal + Threads + Sync>(
         mut self,
         rt: &R,
@@ -591,7 +607,11 @@ impl Reading {
         ensures memory { IfErr result (λ e. e ≡ Memory) }
     {
         self.sort_by(rt, threads);
-        self.into_list(rt.alloc(), number)
+        let graph = self.into_graph_by(rt, threads)?;
+        Ok(EdgeList {
+            graph,
+            records: number,
+        })
     }
 }
 
@@ -810,7 +830,8 @@ pub fn read_large_edge_list<R: CountedRead>(
     read_counted(alloc, state, reader, delimiter, limits)
 }
 
-/// Reads an edge list as [`read_edge_list`] does, and gives its graph alone.
+/// Reads an edge list as [`read_edge_list`] does, and gives its graph alone. For a library's user: the program does not
+/// call it.
 pub fn read_edges<R: CountedRead>(
     alloc: Global,
     state: RandomState,

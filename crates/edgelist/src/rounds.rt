@@ -15,7 +15,7 @@ ghost use Rattle.edgelist.specs.Rounds.{AreOn, IsSameText, has_no_lines, has_pla
 ghost use Rattle.edgelist.specs.declared.piece.Piece.{Piece};
 ghost use Rattle.edgelist.specs.Rounds.{records_of};
 
-use crate::piece::{Gives, Held, Piece};
+use crate::piece::{Amount, Gives, Held, LEAST, Piece};
 use crate::read::{Delimiter, EdgeError, EdgeLimits, EdgeList, Reading, read_answer};
 use crate::watch::Watch;
 use ball_model::CountedRead;
@@ -24,7 +24,7 @@ use std::hash::RandomState;
 use std::thread;
 use std::thread::Threads;
 
-/// The bytes of a piece.
+/// The bytes of a piece, at most.
 pub(crate) const PIECE: usize = 131_072;
 
 // So many pieces are cut side by side, at most.
@@ -85,46 +85,10 @@ fn count(pieces: &[Piece]) -> usize {
     count
 }
 
-// Adds the records of some pieces while those of others are cut, by so many threads. Room for the edges is made before
-// these threads take memory: a table that grows then stays where it is more often.
-fn add_and_cut<R: AllocGlobal + Threads + Sync>(
-    rt: &R,
-    reading: &mut Reading,
-    pieces: &[Piece],
-    coming: &mut [Piece],
-    number: u64,
-    limits: EdgeLimits,
-    threads: usize,
-) -> Result<u64, EdgeError>
-    requires threads { 0 < threads }
-    requires few { limits.edges ≤ most_records }
-    requires number { number ≤ limits.edges }
-    requires within { AreWithin limits.vertices number
-        reading.old.labels reading.old.edges.items }
-    ensures cut { (i : ℕ) (d : Piece) → i < length coming.old →
-        IsSameText (slice_index_or coming.old i d) (slice_index_or coming.new i d) }
-    ensures number { IfOk result (λ n. n ≤ limits.edges) }
-    ensures within { IfOk result (λ n. AreWithin limits.vertices n
-        reading.new.labels reading.new.edges.items) }
-    ensures ok { (before : List (List (List ℕ))) → All has_plain_lines pieces.now →
-        IsThrough (limits_of limits) number before reading.old.labels reading.old.edges.items →
-        IfOk result (λ n. IsThrough (limits_of limits) n
-        (before ++ flat_map records_of pieces.now) reading.new.labels reading.new.edges.items) }
-    ensures refused { (before more : List (List (List ℕ))) → All has_plain_lines pieces.now →
-        IsThrough (limits_of limits) number before reading.old.labels reading.old.edges.items →
-        IfErr result (Refuses (network_from (limits_of limits)
-        (before ++ (flat_map records_of pieces.now ++ more)))) }
-{
-    let alloc = rt.alloc();
-    reading.make_room(count(pieces));
-    let mut cut = ||
-        requires { IsSync R.row × (0 < threads) }
-        ensures { (i : ℕ) (d : Piece) → i < length coming.entry.now → IsSameText
-            (slice_index_or coming.entry.now i d) (slice_index_or coming.exit.now i d) }
-    { cut_pieces(rt, alloc, coming, threads) };
-    let mut add = || add_pieces(alloc, reading, pieces, number, limits);
-    let (_, added) = thread::join_mut(rt, &mut cut, &mut add);
-    added
+// How many bytes piece i of a round takes. The first waits for some, and the others take what is there.
+fn amount_of(i: usize, size: usize) -> Amount {
+    let least = if i == 0 { LEAST.min(size) } else { 0 };
+    Amount { least, most: size }
 }
 
 // Fills pieces with the next lines of a reader, and tells what the last call of the reader gave.
@@ -148,9 +112,19 @@ fn fill_pieces<S: CountedRead>(
 {
     let mut gives = Gives::Much;
     for i in 0..pieces.len() {
-        gives = pieces[i].fill_more(reader, held, delimiter, size, gives)?;
+        gives = pieces[i].fill_more(reader, held, delimiter, amount_of(i, size), gives)?;
     }
     Ok(gives)
+}
+
+// The bytes of pieces that follow so many records: about as many, so that the pieces of a short list take little memory.
+fn size_after(number: u64) -> usize {
+    match number {
+        0..=32_767 => 16_384,
+        32_768..=65_535 => 32_768,
+        65_536..=131_071 => 65_536,
+        _ => PIECE,
+    }
 }
 
 // Pieces with no lines.
@@ -172,10 +146,56 @@ pub(crate) struct Rounds<'a, R, W> {
     pub(crate) watch: &'a W,
     pub(crate) delimiter: Delimiter,
     pub(crate) limits: EdgeLimits,
-    /// The bytes of a piece.
+    /// The bytes of a piece, at most.
     pub(crate) size: usize,
     /// One adds records, and the others cut them.
     pub(crate) threads: usize,
+}
+
+impl<'a, R: AllocGlobal + Threads + Sync, W: Watch> Rounds<'a, R, W> {
+    // Adds the records of some pieces, which follow `number` others, while those of others are cut. Room for the edges is
+    // made before the other threads take memory: a table that grows then stays where it is more often.
+    fn add_and_cut(
+        &self,
+        reading: &mut Reading,
+        number: u64,
+        pieces: &[Piece],
+        coming: &mut [Piece],
+    ) -> Result<u64, EdgeError>
+        requires threads { 2 ≤ self.now.threads }
+        requires few { self.now.limits.edges ≤ most_records }
+        requires number { number ≤ self.now.limits.edges }
+        requires within { AreWithin self.now.limits.vertices number
+            reading.old.labels reading.old.edges.items }
+        ensures cut { (i : ℕ) (d : Piece) → i < length coming.old →
+            IsSameText (slice_index_or coming.old i d) (slice_index_or coming.new i d) }
+        ensures number { IfOk result (λ n. n ≤ self.now.limits.edges) }
+        ensures within { IfOk result (λ n. AreWithin self.now.limits.vertices n
+            reading.new.labels reading.new.edges.items) }
+        ensures ok { (before : List (List (List ℕ))) → All has_plain_lines pieces.now →
+            IsThrough (limits_of self.now.limits) number before
+            reading.old.labels reading.old.edges.items →
+            IfOk result (λ n. IsThrough (limits_of self.now.limits) n
+            (before ++ flat_map records_of pieces.now)
+            reading.new.labels reading.new.edges.items) }
+        ensures refused { (before more : List (List (List ℕ))) → All has_plain_lines pieces.now →
+            IsThrough (limits_of self.now.limits) number before
+            reading.old.labels reading.old.edges.items →
+            IfErr result (Refuses (network_from (limits_of self.now.limits)
+            (before ++ (flat_map records_of pieces.now ++ more)))) }
+    {
+        let (rt, limits, cutting) = (self.rt, self.limits, self.threads - 1);
+        let alloc = rt.alloc();
+        reading.make_room(count(pieces));
+        let mut cut = ||
+            requires { IsSync R.row × (0 < cutting) }
+            ensures { (i : ℕ) (d : Piece) → i < length coming.entry.now → IsSameText
+                (slice_index_or coming.entry.now i d) (slice_index_or coming.exit.now i d) }
+        { cut_pieces(rt, alloc, coming, cutting) };
+        let mut add = || add_pieces(alloc, reading, pieces, number, limits);
+        let (_, added) = thread::join_mut(rt, &mut cut, &mut add);
+        added
+    }
 }
 
 impl<'a, R: AllocGlobal + Threads + Sync, W: Watch> Rounds<'a, R, W> {
@@ -213,17 +233,9 @@ impl<'a, R: AllocGlobal + Threads + Sync, W: Watch> Rounds<'a, R, W> {
             (S.remaining reader.old) → IfErr result (Refuses (network_from
             (limits_of self.now.limits) (records (byte_of self.now.delimiter) text))) }
     {
-        let gives = fill_pieces(coming, reader, held, self.delimiter, self.size)?;
-        let cutting = self.threads - 1;
-        let n = add_and_cut(
-            self.rt,
-            reading,
-            pieces,
-            coming,
-            number,
-            self.limits,
-            cutting,
-        )?;
+        let size = self.size.min(size_after(number));
+        let gives = fill_pieces(coming, reader, held, self.delimiter, size)?;
+        let n = self.add_and_cut(reading, number, pieces, coming)?;
         self.watch.while_read(n);
         Ok((n, gives))
     }
@@ -324,7 +336,7 @@ impl<'a, R: AllocGlobal + Threads + Sync, W: Watch> Rounds<'a, R, W> {
     /// no other time.
     ///
     /// Up to two rounds of pieces are asked for beyond the record that is refused. If a read fails there, `Read` is
-    /// answered. Each piece takes some 1 MiB.
+    /// answered. A piece takes some eight times its bytes, 1 MiB at most where lines are short.
     pub(crate) fn read<S: CountedRead>(
         &self,
         state: RandomState,

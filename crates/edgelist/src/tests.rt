@@ -1,5 +1,6 @@
 //! What no clause says: worked edge lists, digests, and readers that fail.
 
+mod codes;
 mod counting;
 mod damage;
 mod job;

@@ -13,14 +13,14 @@ use Rattle.gapcode.proofs.WordsLemmas.{length-bits_of}
 
 -- ---- what begins at a place
 
-fits : beyond ≤ 2 ^ 32
+pub fits : beyond ≤ 2 ^ 32
 fits = omega arith
 
-begins : (n : ℕ) (bits front more : List Bool) (xs : List ℕ) (lists : List (List ℕ)) → bits ≡ front ++ (flat_map list_bits (xs ∷ lists) ++ more) → length front ≡ n → drop n bits ≡ list_bits xs ++ (flat_map list_bits lists ++ more)
+pub begins : (n : ℕ) (bits front more : List Bool) (xs : List ℕ) (lists : List (List ℕ)) → bits ≡ front ++ (flat_map list_bits (xs ∷ lists) ++ more) → length front ≡ n → drop n bits ≡ list_bits xs ++ (flat_map list_bits lists ++ more)
 begins n bits front more xs lists e len =
     ap (drop n) e ∙ drop_at front (flat_map list_bits (xs ∷ lists) ++ more) n len ∙ append_assoc (list_bits xs) (flat_map list_bits lists) more
 
-begins_later : (bits front more : List Bool) (xs : List ℕ) (lists : List (List ℕ)) → bits ≡ front ++ (flat_map list_bits (xs ∷ lists) ++ more) → bits ≡ (front ++ list_bits xs) ++ (flat_map list_bits lists ++ more)
+pub begins_later : (bits front more : List Bool) (xs : List ℕ) (lists : List (List ℕ)) → bits ≡ front ++ (flat_map list_bits (xs ∷ lists) ++ more) → bits ≡ (front ++ list_bits xs) ++ (flat_map list_bits lists ++ more)
 begins_later bits front more xs lists e =
     e ∙ ap (λ (t : List Bool). front ++ t) (append_assoc (list_bits xs) (flat_map list_bits lists) more) ∙ sym (append_assoc front (list_bits xs) (flat_map list_bits lists ++ more))
 
@@ -146,7 +146,7 @@ goes bits count x read =
     let e : count - 0 ≡ count = omega arith in
     record { order = omega arith; others = (x, rw e read, refl) }
 
-last_pushed : (places : List ℕ) (place : ℕ) → get_or (places ++ place ∷ []) (length (places ++ place ∷ []) - 1) 0 ≡ place
+pub last_pushed : (places : List ℕ) (place : ℕ) → get_or (places ++ place ∷ []) (length (places ++ place ∷ []) - 1) 0 ≡ place
 last_pushed places place =
     let long : length (places ++ place ∷ []) - 1 ≡ length places + 0 = omega (arith, length-append places (place ∷ [])) in
     ap (λ (i : ℕ). get_or (places ++ place ∷ []) i 0) long ∙ get_or-append-add places (place ∷ []) 0 0

@@ -2,6 +2,7 @@ pub mod AppendingLemmas
 pub mod DigitsLemmas
 pub mod GammaLemmas
 pub mod IndexLemmas
+pub mod JoinLemmas
 pub mod PlacesLemmas
 pub mod SpelledLemmas
 pub mod SteppingLemmas

@@ -32,8 +32,8 @@ fn padded(tail: &[u8]) -> [u8; 9]
     nine
 }
 
-// The next 64 bits, with zero bits past the end.
-fn next_word(bytes: &[u8], position: u32) -> u64
+/// The next 64 bits, with zero bits past the end.
+pub fn next_word(bytes: &[u8], position: u32) -> u64
     requires { position ≤ 8 * length bytes.now }
     ensures { digits most_digits result ≡ window_of (bits_from bytes.now position) }
 {

@@ -2,7 +2,8 @@
 //!
 //! [`Lists`] keeps lists of ascending numbers, as the predecessors of each vertex of a graph, in little memory: the
 //! gaps between neighbours are mostly small, and a small number has a short Elias gamma code (Elias 1975). Any list
-//! is found at once, and [`Elements`] walks it without memory. [`ListsBuilder`] takes one list after the other.
+//! is found at once, and [`Elements`] walks it without memory. [`ListsBuilder`] takes one list after the other, and
+//! lists that were made apart.
 //! [`Lists::bytes`] and [`Lists::read`] are the one spelling of lists as bytes, both ways.
 //!
 //! Below them, [`BitWriter`] with [`put_gamma`] and [`BitReader`] with [`get_gamma`] write and read single codes, and

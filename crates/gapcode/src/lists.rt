@@ -2,7 +2,7 @@
 
 ghost use Rattle.std.specs.Prelude.{◌≡◌, ◌+◌, ◌*◌, ◌<◌, ◌≤◌, ◌++◌, ◌∷◌, [], ℕ, Bool, List, length};
 ghost use Rattle.std.specs.Prelude.{map, slice_index_or, IfOk, OnOk, Ok};
-ghost use Rattle.std.specs.List.{All};
+ghost use Rattle.std.specs.List.{flat_map, All};
 ghost use Rattle.gapcode.specs.Bits.{bits_from};
 ghost use Rattle.gapcode.specs.Lists.{beyond, AscendsFrom, AreAscending, IsSpelling, AreSpelled};
 ghost use Rattle.gapcode.specs.Lists.{BeginsAt, BeginWith, GivesOrMemory, all_of, list_bits};
@@ -11,8 +11,8 @@ ghost use Rattle.gapcode.specs.Index.{starts_from};
 use crate::check::{check, pass_list};
 use crate::elements::Elements;
 use crate::error::CodeError;
-use crate::places::Places;
-use crate::writer::{BitWriter, put_gamma};
+use crate::places::{Places, moved_behind};
+use crate::writer::{BitWriter, put_bits, put_gamma};
 use std::alloc::{AllocError, Global};
 use std::marker::Model;
 
@@ -155,6 +155,17 @@ fn list_end(bytes: &[u8], place: u128) -> u128
     }
 }
 
+// How many bits the lists take.
+fn bits_in(lists: &Lists) -> u128
+    ensures { result ≡ length (flat_map list_bits lists.now) }
+{
+    let count = lists.len();
+    if count == 0 {
+        return 0;
+    }
+    list_end(&lists.bytes, lists.places.at(count - 1))
+}
+
 // Where each of the lists begins that the bytes have.
 fn places(alloc: Global, bytes: &[u8], count: usize) -> Result<Places, AllocError>
     requires { (x : List (List ℕ) × List Bool) × BeginWith bytes.now count x }
@@ -235,6 +246,17 @@ impl ListsBuilder {
         let ListsBuilder { mut writer, places } = self;
         let places = places.push(writer.len())?;
         put_list(&mut writer, list)?;
+        Ok(ListsBuilder { writer, places })
+    }
+
+    /// Lists after those that are there: their codes are copied as they are, eight bytes at a time. The error is that
+    /// memory was refused, and the lists so far are lost.
+    pub fn append(self, lists: &Lists) -> Result<ListsBuilder, AllocError>
+        ensures { IfOk result (λ builder. builder ≡ self ++ lists.now) }
+    {
+        let ListsBuilder { mut writer, places } = self;
+        let places = moved_behind(places, &lists.places, writer.len())?;
+        put_bits(&mut writer, &lists.bytes, bits_in(lists))?;
         Ok(ListsBuilder { writer, places })
     }
 

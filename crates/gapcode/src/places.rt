@@ -1,7 +1,8 @@
 //! Places in four bytes each.
 
-ghost use Rattle.std.specs.Prelude.{◌≡◌, ◌-◌, ◌^◌, ◌<◌, ◌≤◌, ◌++◌, ◌∷◌, [], length};
-ghost use Rattle.std.specs.Prelude.{replicate, slice_index, IfOk, OnOk};
+ghost use Rattle.std.specs.Prelude.{◌≡◌, ◌+◌, ◌-◌, ◌^◌, ◌<◌, ◌≤◌, ◌++◌, ◌∷◌, [], length};
+ghost use Rattle.std.specs.Prelude.{map, replicate, slice_index, IfOk, OnOk};
+ghost use Rattle.gapcode.specs.Lists.{IsAscending};
 ghost use Rattle.gapcode.specs.Places.{marks_up_to};
 
 use std::alloc::{AllocError, Global};
@@ -47,6 +48,15 @@ fn put_marks(marks: &mut Vec<usize>, entry: usize, count: u64) -> Result<(), All
     Ok(())
 }
 
+// The places, with room for so many more.
+fn with_more_room(places: Places, count: usize) -> Result<Places, AllocError>
+    ensures { IfOk result (λ p. p ≡ places) }
+{
+    let Places { mut lows, marks } = places;
+    lows.reserve(count)?;
+    Ok(Places { lows, marks })
+}
+
 impl Places {
     /// No places, with room for so many.
     pub fn with_room(alloc: Global, count: usize) -> Result<Places, AllocError>
@@ -87,4 +97,18 @@ impl Places {
         lows.push((place % (1 << u32::BITS)) as u32)?;
         Ok(Places { lows, marks })
     }
+}
+
+/// The places, and after them others, each of these so much further on. The error is that memory was refused.
+pub fn moved_behind(places: Places, others: &Places, by: u128) -> Result<Places, AllocError>
+    requires last { slice_index places (length places - 1) ≤ by }
+    requires others { IsAscending (2 ^ 95) 0 others.now }
+    requires by { by < 2 ^ 95 }
+    ensures { IfOk result (λ p. p ≡ places ++ map (λ place. place + by) others.now) }
+{
+    let mut joined = with_more_room(places, others.len())?;
+    for i in 0..others.len() {
+        joined = joined.push(others.at(i) + by)?;
+    }
+    Ok(joined)
 }

@@ -126,6 +126,65 @@ fn lists_stand_behind_one_another(rt: HostRuntime) {
     assert_eq!(rt; are_behind_one_another(rt.alloc()), Ok(true));
 }
 
+/// [0, 2, 5], then the lists [], [0] and [1], then [0].
+const JOINED: [u8; 4] = [0x25, 0x3a, 0xa4, 0xa0];
+
+/// [0], then the list of 4294967294, whose code takes 66 bits.
+const ZERO_AND_FAR: [u8; 9] = [0x54, 0, 0, 0, 3, 0xff, 0xff, 0xff, 0xfc];
+
+// A list, then three, then one.
+fn joined(alloc: Global) -> Result<Lists, AllocError> {
+    let builder = ListsBuilder::with_room(alloc, 1)?.push(&[0, 2, 5])?;
+    let builder = builder.append(&three(alloc)?.finish())?;
+    Ok(builder.append(&one(alloc, &[0])?)?.finish())
+}
+
+// Whether these are five lists, and found at their places.
+fn are_joined(alloc: Global) -> Result<bool, CodeError> {
+    let lists = joined(alloc)?;
+    Ok(
+        lists.bytes() == JOINED.as_slice()
+            && lists.len() == 5
+            && is(lists.list(0), &[0, 2, 5])
+            && is(lists.list(3), &[1])
+            && is(lists.list(4), &[0]),
+    )
+}
+
+// Whether a code of more than 64 bits is copied to within a byte.
+fn far_is_joined(alloc: Global) -> Result<bool, AllocError> {
+    let builder = ListsBuilder::with_room(alloc, 0)?.push(&[0])?;
+    let lists = builder.append(&one(alloc, &[4_294_967_294])?)?.finish();
+    Ok(
+        lists.bytes() == ZERO_AND_FAR.as_slice()
+            && lists.len() == 2
+            && is(lists.list(1), &[4_294_967_294]),
+    )
+}
+
+// No lists.
+fn none(alloc: Global) -> Result<ListsBuilder, AllocError> {
+    ListsBuilder::with_room(alloc, 0)
+}
+
+// Whether no lists before and after three, and after none, are nothing more.
+fn none_are_joined(alloc: Global) -> Result<bool, AllocError> {
+    let three = three(alloc)?.finish();
+    let lists = none(alloc)?.append(&three)?.append(&none(alloc)?.finish())?;
+    let nothing = none(alloc)?.append(&none(alloc)?.finish())?.finish();
+    Ok(are_three(&lists.finish()) && nothing.len() == 0 && nothing.bytes().is_empty())
+}
+
+// Whether lists are appended to lists.
+fn are_appended(alloc: Global) -> Result<bool, CodeError> {
+    Ok(are_joined(alloc)? && far_is_joined(alloc)? && none_are_joined(alloc)?)
+}
+
+#[test]
+fn lists_are_appended(rt: HostRuntime) {
+    assert_eq!(rt; are_appended(rt.alloc()), Ok(true));
+}
+
 // What refuses these bytes.
 fn refusal(alloc: Global, bytes: &[u8], count: usize, bound: u32) -> Option<CodeError> {
     Lists::read(alloc, bytes, count, bound).err()

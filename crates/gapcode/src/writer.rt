@@ -1,14 +1,18 @@
 //! Bits into bytes.
 
-ghost use Rattle.std.specs.Prelude.{◌≡◌, ◌+◌, ◌*◌, ◌/◌, ◌%◌, ◌<◌, ◌≤◌, ◌^◌, ◌++◌, [], length};
+ghost use Rattle.std.specs.Prelude.{◌≡◌, ◌+◌, ◌*◌, ◌/◌, ◌%◌, ◌<◌, ◌≤◌, ◌^◌, ◌++◌, [], length, take};
 ghost use Rattle.std.specs.Prelude.{OnOk, OnErr, vec_len, vec_capacity};
-ghost use Rattle.gapcode.specs.Bits.{digits, bits_with, gamma, most_digits, AreBytesOf};
+ghost use Rattle.gapcode.specs.Bits.{digits, bits_of, bits_with, gamma, most_digits, AreBytesOf};
 
+use crate::code::next_word;
 use std::alloc::{AllocError, Global};
 use std::marker::Model;
 
 /// How many bytes one code and the bits before it fill at most.
 const ROOM: usize = 17;
+
+/// How many bytes less than 64 bits and the bits before them fill at most, and one that is kept.
+const SPARE: usize = 9;
 
 // Splits the lowest `rest` bits off `last` and the n bits of `value` behind it.
 fn split_bits(last: u8, value: u64, n: u32, rest: u32) -> (u64, u8)
@@ -61,6 +65,51 @@ fn put_code(full: &mut Vec<u8>, last: u8, used: u32, x: u64) -> (u8, u32)
     let zeros = 63 - x.leading_zeros();
     let (last, used) = put_digits(full, last, used, 0, zeros);
     put_digits(full, last, used, x, zeros + 1)
+}
+
+// Appends 64 bits. As many bits as before are left over.
+fn put_word(full: &mut Vec<u8>, last: u8, used: u32, word: u64) -> u8
+    requires used { used < 8 }
+    requires last { last < 2 ^ used }
+    requires room { vec_len full.old + 8 ≤ vec_capacity full.old }
+    ensures last { result < 2 ^ used }
+    ensures bits { bits_with full.new.items result used
+        ≡ bits_with full.old.items last used ++ digits most_digits word }
+    ensures longer { vec_len full.new ≡ vec_len full.old + 8 }
+    ensures room { vec_capacity full.old ≤ vec_capacity full.new }
+{
+    let (whole, left) = split_bits(last, word, u64::BITS, used);
+    let _ = full.extend_from_slice(&whole.to_be_bytes());
+    left
+}
+
+// Appends the first bits of bytes, 64 at a time and so many times. As many bits as before are left over.
+fn put_words(full: &mut Vec<u8>, last: u8, used: u32, bytes: &[u8], count: usize) -> u8
+    requires used { used < 8 }
+    requires last { last < 2 ^ used }
+    requires inside { 8 * count ≤ length bytes.now }
+    requires room { vec_len full.old + 8 * count ≤ vec_capacity full.old }
+    ensures last { result < 2 ^ used }
+    ensures bits { bits_with full.new.items result used
+        ≡ bits_with full.old.items last used ++ take (most_digits * count) (bits_of bytes.now) }
+    ensures longer { vec_len full.new ≡ vec_len full.old + 8 * count }
+    ensures room { vec_capacity full.old ≤ vec_capacity full.new }
+{
+    let mut left = last;
+    for i in 0..count {
+        left = put_word(full, left, used, next_word(&bytes[8 * i..], 0));
+    }
+    left
+}
+
+// The first n bits of bytes as one number.
+fn first_bits(bytes: &[u8], n: u32) -> u64
+    requires n { n < most_digits }
+    requires inside { n ≤ 8 * length bytes.now }
+    ensures small { result < 2 ^ n }
+    ensures bits { digits n result ≡ take n (bits_of bytes.now) }
+{
+    ((next_word(bytes, 0) as u128) >> (u64::BITS - n)) as u64
 }
 
 /// Bits on their way into bytes, the most significant of a byte first.
@@ -133,6 +182,25 @@ pub fn put_gamma(writer: &mut BitWriter, x: u64) -> Result<(), AllocError>
 {
     writer.full.reserve(ROOM)?;
     let (last, used) = put_code(&mut writer.full, writer.last, writer.used, x);
+    writer.last = last;
+    writer.used = used;
+    Ok(())
+}
+
+/// Appends the first bits of bytes, so many.
+///
+/// The error is that memory was refused.
+pub fn put_bits(writer: &mut BitWriter, bytes: &[u8], count: u128) -> Result<(), AllocError>
+    requires { count ≤ 8 * length bytes.now }
+    ensures ok { OnOk result (writer.new ≡ writer.old ++ take count (bits_of bytes.now)) }
+    ensures err { OnErr result (writer.new ≡ writer.old) }
+{
+    let words = (count / 64) as usize;
+    let n = (count % 64) as u32;
+    writer.full.reserve(8 * words + SPARE)?;
+    let left = put_words(&mut writer.full, writer.last, writer.used, bytes, words);
+    let rest = first_bits(&bytes[8 * words..], n);
+    let (last, used) = put_digits(&mut writer.full, left, writer.used, rest, n);
     writer.last = last;
     writer.used = used;
     Ok(())

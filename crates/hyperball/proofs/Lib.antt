@@ -3,10 +3,7 @@ pub mod OptionLemmas
 pub mod WishLemmas
 pub mod CommandLemmas
 pub mod WholeLemmas
-pub mod ReportLemmas
 pub mod ReplayLemmas
 pub mod OrderLemmas
 pub mod RefusalLemmas
-pub mod NodeLemmas
 pub mod TellingLemmas
-pub mod FaultLemmas

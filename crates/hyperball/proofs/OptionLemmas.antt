@@ -47,10 +47,10 @@ pub flag_is : (f : Found) (id : Text) (given b : Bool) → (one_text f id ≡ No
 flag_is f id given b none value other is =
     flag_of (one_text f id) given b none value other (subst (λ o. MatchOption o (b ≡ false) (λ t. t ≡ flag_text b)) (sym (one_text-rows f id)) is)
 
-pub same_words : (log2m seed parts limit : ℕ) (e : Estimate) (d : Delimiter) (large : Bool) (replicas entries keep patience threads : ℕ) (counted : Bool) (w : RunWords) → log2m ≡ w.options.log2m → seed ≡ w.options.seed → parts ≡ w.options.parts → limit ≡ w.options.limit →
-    e ≡ w.options.estimate → d ≡ w.options.delimiter → large ≡ w.options.large → replicas ≡ w.options.replicas → entries ≡ w.options.entries → keep ≡ w.options.keep → patience ≡ w.options.patience → threads ≡ w.options.threads → counted ≡ w.counted →
-    ◌≡◌ {A = RunWords} (record { options = record { log2m = log2m; seed = seed; parts = parts; limit = limit; estimate = e; delimiter = d; large = large; replicas = replicas; entries = entries; keep = keep; patience = patience; threads = threads }; counted = counted }) w
-same_words log2m seed parts limit e d large replicas entries keep patience threads counted w a b p l k g z r n m q t h = λ i. record { options = record { log2m = a i; seed = b i; parts = p i; limit = l i; estimate = k i; delimiter = g i; large = z i; replicas = r i; entries = n i; keep = m i; patience = q i; threads = t i }; counted = h i }
+pub same_words : (log2m seed parts limit : ℕ) (e : Estimate) (d : Delimiter) (large : Bool) (replicas entries keep patience threads : ℕ) (counted progress : Bool) (w : RunWords) → log2m ≡ w.options.log2m → seed ≡ w.options.seed → parts ≡ w.options.parts → limit ≡ w.options.limit →
+    e ≡ w.options.estimate → d ≡ w.options.delimiter → large ≡ w.options.large → replicas ≡ w.options.replicas → entries ≡ w.options.entries → keep ≡ w.options.keep → patience ≡ w.options.patience → threads ≡ w.options.threads → counted ≡ w.counted → progress ≡ w.progress →
+    ◌≡◌ {A = RunWords} (record { options = record { log2m = log2m; seed = seed; parts = parts; limit = limit; estimate = e; delimiter = d; large = large; replicas = replicas; entries = entries; keep = keep; patience = patience; threads = threads; lose = w.options.lose; restart = w.options.restart }; counted = counted; progress = progress }) w
+same_words log2m seed parts limit e d large replicas entries keep patience threads counted progress w a b p l k g z r n m q t h s = λ i. record { options = record { log2m = a i; seed = b i; parts = p i; limit = l i; estimate = k i; delimiter = g i; large = z i; replicas = r i; entries = n i; keep = m i; patience = q i; threads = t i; lose = w.options.lose; restart = w.options.restart }; counted = h i; progress = s i }
 
 pub same_replay_words : (log2m seed parts limit replicas : ℕ) (e : Estimate) (d : Delimiter) (counted progress : Bool) (w : ReplayWords) → log2m ≡ w.options.log2m → seed ≡ w.options.seed → parts ≡ w.options.parts → limit ≡ w.options.limit → replicas ≡ w.options.replicas →
     e ≡ w.options.estimate → d ≡ w.options.delimiter → counted ≡ w.counted → progress ≡ w.progress →

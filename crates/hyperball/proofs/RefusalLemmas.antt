@@ -1,42 +1,149 @@
--- What a fault says of the input that a run read.
-use Rattle.std.proofs.Common.{◌≡◌, ◌∙◌, ℕ, List, false, true, ap, refl, sym, subst}
-use Rattle.std.specs.Prelude.{Option, None, Some, IfSome, option_map}
-use Rattle.ball_model.specs.Input.{IsPlain}
-use Rattle.ball_model.specs.RunText.{ArePlain, Settings}
-use Rattle.ball_model.specs.Sections.{sections_of}
+-- What a run reports of an input, and what a fault of it says.
+use Rattle.std.proofs.Common.{◌≡◌, ◌≢◌, ◌∙◌, ◌<◌, ◌≤◌, ℕ, Bool, List, inl, inr, length, false, true, ap, arith, refl, sym, subst}
+use Rattle.std.specs.Prelude.{Err, IfSome, None, Ok, Option, Result, Some}
+use Rattle.std.specs.Io.KnownBytes.{Keeps}
+use Rattle.ball_model.specs.Streams.{Rises, RisesByOne}
 use Rattle.edgelist.specs.Job.{settings_of}
-use Rattle.workers.specs.Options.{run_job}
+use Rattle.edgelist.specs.Reading.{CountsOne}
 use Rattle.edgelist.specs.Records.{ForPlain}
-use Rattle.workers.specs.Run.{IsRunRefusal, RefusesEdges}
-use Rattle.workers.specs.declared.bytes.RunError.{RunError}
+use Rattle.edgelist.specs.declared.read.EdgeError.TheVariants as edge_fault
+use Rattle.ball_model.specs.Input.{IsPlain}
+use Rattle.ball_model.specs.RunText.{AppendsReport, ArePlain, Settings}
+use Rattle.node.specs.declared.limits.TheConstants.{MOST_BYTES}
+use Rattle.workers.specs.Options.{run_job}
+use Rattle.workers.specs.Run.{IsFaultIn, IsRunRefusal, RefusesEdges}
+use Rattle.workers.specs.declared.runs.RunError.{RunError}
+use Rattle.workers.specs.declared.runs.RunError.TheVariants as run_fault
 use Rattle.workers.specs.declared.options.RunOptions.{RunOptions}
-use Rattle.hyperball.specs.Refusals.{IsFault, RefusesInput}
-use Rattle.hyperball.specs.Whole.{IsWholeInput}
-use Rattle.hyperball.specs.declared.cli.run.RunFault.{RunFault}
-use Rattle.hyperball.specs.declared.cli.run.RunFault.TheVariants as fault
+use Rattle.hyperball.specs.Refusals.{DoesJob, FailsJob, RefusesInput, Reports}
+use Rattle.hyperball.specs.Streams.{KeptOrFailed, Reads, Writes}
+use Rattle.hyperball.specs.Whole.{Parts, ReadsWhole, parts_in}
+use Rattle.hyperball.specs.declared.cli.run.JobFault.{JobFault}
+use Rattle.hyperball.specs.declared.cli.run.JobFault.TheVariants as fault
+use Rattle.hyperball.specs.declared.whole.Lack.{Lack}
+use Rattle.hyperball.specs.declared.whole.WholeError.{WholeError}
+use Rattle.hyperball.proofs.WholeLemmas.{IsRead, always, not_long, of_input, retold, untold}
 
--- the two sections of an input, of which this error is told
-pub refuses_both : (s : Settings) (input edges first list : List ℕ) (e : RunError) → Some (edges, list) ≡ sections_of input → first ≡ edges →
-    (IsPlain first → RefusesEdges s first e) → (ArePlain first (Some list) → IsRunRefusal s first (Some list) e) → RefusesInput s true input e
-refuses_both s input edges first list e found is of_edges refused = record {
-  edges = edges;
-  list = Some list;
-  found = ap (option_map (λ p. (p.0, Some p.1))) (sym found);
-  of_edges = subst (λ l. IsPlain l → RefusesEdges s l e) is of_edges;
-  refused = subst (λ l. ArePlain l (Some list) → IsRunRefusal s l (Some list) e) is refused;
+same_input : (f e : WholeError) → fault.Input f ≡ fault.Input e → f ≡ e
+same_input f e is = cc
+
+same_run : (x y : RunError) → fault.Run x ≡ fault.Run y → x ≡ y
+same_run x y is = cc
+
+-- what was written is kept, or a write failed
+pub kept_or : (e : RunError) (w : Writes) → (e ≢ run_fault.Write → Keeps w.contents.old w.contents.new) → (e ≡ run_fault.Write → RisesByOne w.failed.old w.failed.new) → KeptOrFailed w
+kept_or run_fault.Options w kept wrote = inl (kept (λ is. absurd (cc)))
+kept_or (run_fault.Edges x) w kept wrote = inl (kept (λ is. absurd (cc)))
+kept_or (run_fault.Counted x) w kept wrote = inl (kept (λ is. absurd (cc)))
+kept_or (run_fault.Plan x) w kept wrote = inl (kept (λ is. absurd (cc)))
+kept_or (run_fault.PartitionLost part) w kept wrote = inl (kept (λ is. absurd (cc)))
+kept_or run_fault.BookFull w kept wrote = inl (kept (λ is. absurd (cc)))
+kept_or run_fault.Memory w kept wrote = inl (kept (λ is. absurd (cc)))
+kept_or (run_fault.Starved node superstep source) w kept wrote = inl (kept (λ is. absurd (cc)))
+kept_or run_fault.Write w kept wrote = inr (wrote refl)
+
+-- ---- a run with a list of counted vertices
+-- the report of these parts was appended
+pub reports_listed : (o : RunOptions) (r : Reads) (w : Writes) (bytes first : List ℕ) (p : Parts) → IsRead r bytes → parts_in true false bytes ≡ Ok p → first ≡ p.edges →
+    (ArePlain first p.list → AppendsReport (settings_of (run_job o)) first p.list w.contents.old w.contents.new) → DoesJob o true r w
+reports_listed o r w bytes first p read found is appended =
+    let s : Settings = settings_of (run_job o) in
+    record {
+      reported = of_input r.bytes.old bytes (λ input. Reports s true input w.contents.old w.contents.new) read.whole (record {
+        parts = p;
+        found = found;
+        appended = subst (λ l. ArePlain l p.list → AppendsReport s l p.list w.contents.old w.contents.new) is appended;
+        within = λ _. read.within;
+      });
+      unfailed = λ one. read.unfailed one.1;
+    }
+
+-- the input was not read whole
+pub unread : (o : RunOptions) (r : Reads) (w : Writes) (f : WholeError) → ReadsWhole r (λ e. f ≡ e) → Keeps w.contents.old w.contents.new → FailsJob o true r w (fault.Input f)
+unread o r w f whole keeps = record {
+  due = refl;
+  listed = λ _. record {
+    whole = retold r (λ e. f ≡ e) (λ e. fault.Input f ≡ fault.Input e) (λ e is. same_input f e is) (λ e is. ap fault.Input is) whole;
+    long = always r.bytes.old (λ input long. tt);
+    edges = λ is. absurd (cc);
+  };
+  unlisted = λ none. absurd (cc);
+  kept = inl keeps;
 }
 
--- a whole input, of which a fault is told
-pub told_whole : (o : RunOptions) (told : Option (List ℕ)) (bytes seen : List ℕ) (f : RunFault) → IsWholeInput told bytes → seen ≡ bytes → IsFault o true (Some seen) f → IsFault o true told f
-told_whole o told bytes seen fault.Gate whole same says = tt
-told_whole o told bytes seen fault.Random whole same says = tt
-told_whole o told bytes seen (fault.Input e) whole same says = tt
-told_whole o None bytes seen fault.NoList whole same says = tt
-told_whole o (Some input) bytes seen fault.NoList whole same says = subst (λ l. IsFault o true (Some l) fault.NoList) (same ∙ whole) says
-told_whole o None bytes seen (fault.Run e) whole same says = (says.0, tt)
-told_whole o (Some input) bytes seen (fault.Run e) whole same says = (says.0, subst (λ l. RefusesInput (settings_of (run_job o)) true l e) (same ∙ whole) says.1)
+-- it lacks a part
+pub lacking : (o : RunOptions) (r : Reads) (w : Writes) (bytes : List ℕ) (missing : Lack) → IsRead r bytes → parts_in true false bytes ≡ Err missing → Keeps w.contents.old w.contents.new →
+    FailsJob o true r w (fault.Lacks missing)
+lacking o r w bytes missing read found keeps = record {
+  due = (refl, of_input r.bytes.old bytes (λ input. parts_in true false input ≡ Err missing) read.whole found);
+  listed = λ _. record {
+    whole = untold r bytes _ read (λ e is. absurd (cc));
+    long = not_long r bytes _ read;
+    edges = λ is. absurd (cc);
+  };
+  unlisted = λ none. absurd (cc);
+  kept = inl keeps;
+}
 
--- an input without a list, of which this error is told
-pub refuses_edges : (s : Settings) (told : Option (List ℕ)) (e : RunError) → ForPlain told (λ input. RefusesEdges s input e) → IfSome told (λ input. ArePlain input None → IsRunRefusal s input None e) → IfSome told (λ input. RefusesInput s false input e)
-refuses_edges s None e of_edges refused = tt
-refuses_edges s (Some input) e of_edges refused = record { edges = input; list = None; found = refl; of_edges = of_edges input refl; refused = refused }
+-- the run over its parts fails
+pub listed_fails : (o : RunOptions) (r : Reads) (w : Writes) (bytes first : List ℕ) (p : Parts) (e : RunError) → IsRead r bytes → parts_in true false bytes ≡ Ok p → first ≡ p.edges → IsFaultIn o e →
+    (IsPlain first → RefusesEdges (settings_of (run_job o)) first e) → (ArePlain first p.list → IsRunRefusal (settings_of (run_job o)) first p.list e) → (e ≡ run_fault.Edges edge_fault.Read → ⊥) →
+    (e ≢ run_fault.Write → Keeps w.contents.old w.contents.new) → (e ≡ run_fault.Write → RisesByOne w.failed.old w.failed.new) → FailsJob o true r w (fault.Run e)
+listed_fails o r w bytes first p e read found is due of_edges refused other kept wrote =
+    let s : Settings = settings_of (run_job o) in
+    record {
+      due = (
+        due,
+        of_input r.bytes.old bytes (λ input. RefusesInput s true input e) read.whole (record {
+          parts = p;
+          found = found;
+          of_edges = subst (λ l. IsPlain l → RefusesEdges s l e) is of_edges;
+          refused = subst (λ l. ArePlain l p.list → IsRunRefusal s l p.list e) is refused;
+        }),
+      );
+      listed = λ _. record {
+        whole = untold r bytes _ read (λ x bad. absurd (cc));
+        long = not_long r bytes _ read;
+        edges = λ bad. other (same_run e _ bad);
+      };
+      unlisted = λ none. absurd (cc);
+      kept = kept_or e w kept wrote;
+    }
+
+-- ---- a run without one
+reports_input : (s : Settings) (o : Option (List ℕ)) (old new : Option (List ℕ)) → IfSome o (λ input. ArePlain input None → AppendsReport s input None old new) → IfSome o (λ input. Reports s false input old new)
+reports_input s None old new done = tt
+reports_input s (Some input) old new done = record {
+  parts = record { edges = input; list = None; script = None };
+  found = refl;
+  appended = done;
+  within = λ listed. absurd (cc);
+}
+
+pub reports_unlisted : (o : RunOptions) (counted : Bool) (r : Reads) (w : Writes) → counted ≡ false → IfSome r.bytes.old (λ input. ArePlain input None → AppendsReport (settings_of (run_job o)) input None w.contents.old w.contents.new) →
+    (CountsOne r.failed.old r.failed.new → ⊥) → DoesJob o counted r w
+reports_unlisted o counted r w none done unfailed = subst (λ (b : Bool). DoesJob o b r w) (sym none) (record {
+  reported = reports_input (settings_of (run_job o)) r.bytes.old w.contents.old w.contents.new done;
+  unfailed = unfailed;
+})
+
+refuses_input : (s : Settings) (o : Option (List ℕ)) (e : RunError) → ForPlain o (λ input. RefusesEdges s input e) → IfSome o (λ input. ArePlain input None → IsRunRefusal s input None e) →
+    IfSome o (λ input. RefusesInput s false input e)
+refuses_input s None e of_edges refused = tt
+refuses_input s (Some input) e of_edges refused = record {
+  parts = record { edges = input; list = None; script = None };
+  found = refl;
+  of_edges = of_edges input refl;
+  refused = refused;
+}
+
+pub unlisted_fails : (o : RunOptions) (counted : Bool) (r : Reads) (w : Writes) (e : RunError) → counted ≡ false → IsFaultIn o e →
+    ForPlain r.bytes.old (λ input. RefusesEdges (settings_of (run_job o)) input e) → IfSome r.bytes.old (λ input. ArePlain input None → IsRunRefusal (settings_of (run_job o)) input None e) →
+    (e ≡ run_fault.Edges edge_fault.Read → Rises r.failed.old r.failed.new) → (CountsOne r.failed.old r.failed.new → e ≡ run_fault.Edges edge_fault.Read) →
+    (e ≢ run_fault.Write → Keeps w.contents.old w.contents.new) → (e ≡ run_fault.Write → RisesByOne w.failed.old w.failed.new) → FailsJob o counted r w (fault.Run e)
+unlisted_fails o counted r w e none due of_edges refused read failed kept wrote = subst (λ (b : Bool). FailsJob o b r w (fault.Run e)) (sym none) (record {
+  due = (due, refuses_input (settings_of (run_job o)) r.bytes.old e of_edges refused);
+  listed = λ yes_listed. absurd (cc);
+  unlisted = λ _. record { read = λ is. read (same_run e _ is); failed = λ one. ap fault.Run (failed one) };
+  kept = kept_or e w kept wrote;
+})

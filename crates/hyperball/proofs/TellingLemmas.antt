@@ -6,10 +6,10 @@ use Rattle.std.specs.Io.KnownBytes.{Appends, Keeps}
 use Rattle.std.proofs.lemmas.List.Elements.{All-append, All-cons, All-nil}
 use Rattle.ball_model.specs.WorldText.{node_word}
 use Rattle.node.specs.Stream.{HasNoEnd}
-use Rattle.hyperball.specs.Progress.{TellsProgress, IsLineBehind, line_of, mark_of_program, news_text, told_text}
+use Rattle.hyperball.specs.Progress.{TellsProgress, IsLineBehind, line_of, mark_of_program, news_text, news_line}
 use Rattle.ball_model.specs.declared.names.NodeId.{NodeId}
-use Rattle.hyperball.specs.declared.told.Told.{Told}
-use Rattle.hyperball.specs.declared.told.Told.TheVariants as told
+use Rattle.hyperball.specs.declared.lines.News.{News}
+use Rattle.hyperball.specs.declared.lines.News.TheVariants as line
 
 -- what keeps what stood there tells no line
 appends-none : (old new : Option (List ℕ)) → Keeps old new → Appends old new []
@@ -23,29 +23,29 @@ tells_none old new keeps = record { lines = []; appended = appends-none old new 
 -- ---- lines as they are written, piece by piece
 
 pub read_text : (records vertices : ℕ) →
-    told_text (told.Read records vertices) ≡
+    news_line (line.Read records vertices) ≡
     codes "hyperball: " ++ (decimal records ++ (codes " records and " ++ (decimal vertices ++ codes " vertices are read")))
 read_text records vertices = search (rules, append_assoc)
 
 pub log2m_text : (log2m : ℕ) →
-    told_text (told.NoLog2m log2m) ≡ codes "hyperball: no plan has log2m " ++ (decimal log2m ++ codes " (4 to 10 are allowed): the job will be refused once the edge list is read")
+    news_line (line.NoLog2m log2m) ≡ codes "hyperball: no plan has log2m " ++ (decimal log2m ++ codes " (4 to 10 are allowed): the job will be refused once the edge list is read")
 log2m_text log2m = search (rules, append_assoc)
 
 pub parts_text : (parts : ℕ) →
-    told_text (told.NoParts parts) ≡ codes "hyperball: no plan has parts " ++ (decimal parts ++ codes " (1 to 64 are allowed): the job will be refused once the edge list is read")
+    news_line (line.NoParts parts) ≡ codes "hyperball: no plan has parts " ++ (decimal parts ++ codes " (1 to 64 are allowed): the job will be refused once the edge list is read")
 parts_text parts = search (rules, append_assoc)
 
 pub limit_text : (limit : ℕ) →
-    told_text (told.NoLimit limit) ≡ codes "hyperball: no plan has limit " ++ (decimal limit ++ codes " (1 to 4096 are allowed): the job will be refused once the edge list is read")
+    news_line (line.NoLimit limit) ≡ codes "hyperball: no plan has limit " ++ (decimal limit ++ codes " (1 to 4096 are allowed): the job will be refused once the edge list is read")
 limit_text limit = search (rules, append_assoc)
 
 pub superstep_text : (superstep changed vertices : ℕ) →
-    told_text (told.Superstep superstep changed vertices) ≡
+    news_line (line.Superstep superstep changed vertices) ≡
     codes "hyperball: superstep " ++ (decimal superstep ++ (codes ", " ++ (decimal changed ++ (codes " of " ++ (decimal vertices ++ codes " vertices changed")))))
 superstep_text superstep changed vertices = search (rules, append_assoc)
 
 pub close_text : (node : NodeId) (superstep changed vertices : ℕ) →
-    told_text (told.Close node superstep changed vertices) ≡
+    news_line (line.Close node superstep changed vertices) ≡
     codes "hyperball: node "
     ++ (decimal node.part ++ (codes "." ++ (decimal node.replica ++ (codes " at superstep " ++ (decimal superstep
     ++ (codes ", " ++ (decimal changed ++ (codes " of its " ++ (decimal vertices ++ codes " vertices changed")))))))))
@@ -116,29 +116,29 @@ changed-no_end a of_all changed vertices h is =
 foretold-no_end : (a : List ℕ) (n : ℕ) (b : List ℕ) → seen_no_end a ≡ true → seen_no_end b ≡ true → HasNoEnd (a ++ decimal n ++ b)
 foretold-no_end a n b h k = joined (a ++ decimal n) b (joined a (decimal n) (seen a h) (decimal-no_end n)) (seen b k)
 
-news-no_end : (news : Told) → HasNoEnd (news_text news)
-news-no_end (told.NoLog2m log2m) = foretold-no_end (codes "no plan has log2m ") log2m (codes " (4 to 10 are allowed): the job will be refused once the edge list is read") refl refl
-news-no_end (told.NoParts parts) = foretold-no_end (codes "no plan has parts ") parts (codes " (1 to 64 are allowed): the job will be refused once the edge list is read") refl refl
-news-no_end (told.NoLimit limit) = foretold-no_end (codes "no plan has limit ") limit (codes " (1 to 4096 are allowed): the job will be refused once the edge list is read") refl refl
-news-no_end (told.Reading records) = joined (decimal records) (codes " records are read so far") (decimal-no_end records) (seen (codes " records are read so far") refl)
-news-no_end (told.Read records vertices) =
+news-no_end : (news : News) → HasNoEnd (news_text news)
+news-no_end (line.NoLog2m log2m) = foretold-no_end (codes "no plan has log2m ") log2m (codes " (4 to 10 are allowed): the job will be refused once the edge list is read") refl refl
+news-no_end (line.NoParts parts) = foretold-no_end (codes "no plan has parts ") parts (codes " (1 to 64 are allowed): the job will be refused once the edge list is read") refl refl
+news-no_end (line.NoLimit limit) = foretold-no_end (codes "no plan has limit ") limit (codes " (1 to 4096 are allowed): the job will be refused once the edge list is read") refl refl
+news-no_end (line.Reading records) = joined (decimal records) (codes " records are read so far") (decimal-no_end records) (seen (codes " records are read so far") refl)
+news-no_end (line.Read records vertices) =
     joined (decimal records ++ codes " records and " ++ decimal vertices) (codes " vertices are read")
     (numbered (decimal records) (codes " records and ") vertices (decimal-no_end records) refl)
     (seen (codes " vertices are read") refl)
-news-no_end told.Start = seen (codes "the supersteps begin") refl
-news-no_end (told.Superstep superstep changed vertices) =
+news-no_end line.Start = seen (codes "the supersteps begin") refl
+news-no_end (line.Superstep superstep changed vertices) =
     changed-no_end (codes "superstep " ++ decimal superstep) (codes " of ") changed vertices
     (numbered [] (codes "superstep ") superstep (All-nil (λ b. b ≢ 10)) refl) refl
-news-no_end (told.Close node superstep changed vertices) =
+news-no_end (line.Close node superstep changed vertices) =
     let name : List ℕ = codes "node " ++ node_word node in
     changed-no_end (name ++ codes " at superstep " ++ decimal superstep) (codes " of its ") changed vertices
     (numbered name (codes " at superstep ") superstep (joined (codes "node ") (node_word node) (seen (codes "node ") refl) (node-no_end node)) refl) refl
-news-no_end told.Report = seen (codes "the report is written") refl
-news-no_end told.Answers = seen (codes "the answers are written") refl
-news-no_end told.Commands = seen (codes "the commands are answered") refl
+news-no_end line.Report = seen (codes "the report is written") refl
+news-no_end line.Answers = seen (codes "the answers are written") refl
+news-no_end line.Commands = seen (codes "the commands are answered") refl
 
 -- each line of progress begins so, and has one LF, at its end
-pub line_is : (news : Told) → IsLineBehind mark_of_program (line_of news)
+pub line_is : (news : News) → IsLineBehind mark_of_program (line_of news)
 line_is news = record {
   rest = news_text news;
   is = refl;

@@ -1,14 +1,19 @@
 -- Inputs that are read whole, and their sections.
-use Rattle.std.proofs.Common.{◌≡◌, ◌∙◌, ℕ, suc, ◌+◌, ◌-◌, ◌<◌, ◌≤◌, Bool, true, false, ◌==◌, if◌then◌else◌, List, [], ◌∷◌, ◌++◌, length, take, drop, slice_index, refl, ap, arith, sym, append-nil, length-append}
-use Rattle.std.specs.Prelude.{Option, None, Some}
+use Rattle.std.proofs.Common.{◌≡◌, ◌∙◌, ℕ, suc, ◌+◌, ◌-◌, ◌<◌, ◌≤◌, Bool, true, false, ◌==◌, if◌then◌else◌, subst, List, [], ◌∷◌, ◌++◌, length, take, drop, slice_index, refl, ap, arith, sym, append-nil, length-append}
+use Rattle.std.specs.Prelude.{Err, IfSome, None, Ok, Option, Result, Some, is_some}
 use Rattle.std.specs.Io.KnownBytes.{Consumes}
 use Rattle.std.proofs.Math.Seq.{drop-cons, take-suc}
 use Rattle.std.proofs.lemmas.List.{drop_all, length-take}
 use Rattle.std.proofs.KnownBytes.{Consumes-trans}
 use Rattle.ball_model.specs.Sections.{after_mark, sections_from}
-use Rattle.ball_model.specs.Streams.{TakesAtMost}
+use Rattle.ball_model.specs.Streams.{Rises, TakesAtMost}
 use Rattle.world.proofs.ScriptLemmas.{behind, behind-longer, whole_rest}
 use Rattle.node.specs.declared.limits.TheConstants.{MOST_BYTES}
+use Rattle.hyperball.specs.Streams.{Reads}
+use Rattle.hyperball.specs.Whole.{IsWholeInput, Parts, ReadsFew, ReadsWhole, parts_in}
+use Rattle.hyperball.specs.declared.whole.Lack.{Lack}
+use Rattle.hyperball.specs.declared.whole.WholeError.{WholeError}
+use Rattle.hyperball.specs.declared.whole.WholeError.TheVariants as fault
 
 -- what was read so far
 pub record HasRead (old new : Option (List ℕ)) (bytes : List ℕ) : Type 0 where
@@ -71,3 +76,66 @@ ended xs i begins le = ap (λ l. behind (take i xs) (sections_from begins l)) (d
 
 pub taken_within : (n : ℕ) (xs : List ℕ) → length (take n xs) ≤ n
 taken_within n xs = let long = length-take n xs in omega (arith, long)
+
+-- ---- inputs that were read whole
+pub record IsRead (r : Reads) (bytes : List ℕ) : Type 0 where
+  pub whole : IsWholeInput r.bytes.old bytes
+  pub within : length bytes ≤ MOST_BYTES
+  pub unfailed : Rises r.failed.old r.failed.new → ⊥
+  pub few : ReadsFew r.bytes.old r.bytes.new
+
+-- of such a one no fault is told
+pub untold : (r : Reads) (bytes : List ℕ) (told : WholeError → Type 0) → IsRead r bytes → ((e : WholeError) → told e → ⊥) → ReadsWhole r told
+untold r bytes told read none = record {
+  size = λ is. absurd (none fault.Size is);
+  memory = λ is. absurd (none fault.Memory is);
+  read = λ is. absurd (none fault.Read is);
+  failed = λ rises. absurd (read.unfailed rises);
+  sure = λ _ is. none fault.Read is;
+  few = read.few;
+}
+
+-- what is told of one fault is told of each that goes with it
+pub retold : (r : Reads) (told other : WholeError → Type 0) → ((e : WholeError) → other e → told e) → ((e : WholeError) → told e → other e) → ReadsWhole r told → ReadsWhole r other
+retold r told other back to reads = record {
+  size = λ is. reads.size (back fault.Size is);
+  memory = λ is. reads.memory (back fault.Memory is);
+  read = λ is. reads.read (back fault.Read is);
+  failed = λ rises. to fault.Read (reads.failed rises);
+  sure = λ sure is. reads.sure sure (back fault.Read is);
+  few = reads.few;
+}
+
+-- what is so of the bytes is so of the input
+pub of_input : (o : Option (List ℕ)) (bytes : List ℕ) (P : List ℕ → Type 0) → IsWholeInput o bytes → P bytes → IfSome o P
+of_input None bytes P whole is = tt
+of_input (Some input) bytes P whole is = subst P whole is
+
+-- it is not too long
+pub not_long : (r : Reads) (bytes : List ℕ) (A : Type 0) → IsRead r bytes → IfSome r.bytes.old (λ input. MOST_BYTES < length input → A)
+not_long r bytes A read = of_input r.bytes.old bytes (λ input. MOST_BYTES < length input → A) read.whole (λ long. absurd (omega (arith, long, read.within)))
+
+-- what is always so is so of the input
+pub always : {P : List ℕ → Type 0} → (o : Option (List ℕ)) → ((input : List ℕ) → P input) → IfSome o P
+always None all = tt
+always (Some input) all = all input
+
+-- ---- the parts of an input
+-- the input lacks one part, and has not all
+pub one_lack : (x y : Lack) (found : Result Parts Lack) → found ≡ Err x → found ≡ Err y → x ≡ y
+one_lack x y found is other = let e = sym is ∙ other in cc
+
+pub lacks_none : (x : Lack) (p : Parts) (found : Result Parts Lack) → found ≡ Ok p → found ≡ Err x → ⊥
+lacks_none x p found is other = let e = sym is ∙ other in absurd (cc)
+
+-- of which nothing is read few bytes are read
+pub none_read : (most : ℕ) (o : Option (List ℕ)) → TakesAtMost most o o
+none_read most None = record { bytes = []; consumed = tt; few = omega arith }
+none_read most (Some input) = record { bytes = []; consumed = refl; few = omega arith }
+
+-- what is so of the bytes that were kept is so of those that are seen
+pub seen : (r : Reads) (items bytes : List ℕ) → IsRead r items → bytes ≡ items → IsRead r bytes
+seen r items bytes read same = subst (IsRead r) (sym same) read
+
+pub same_whole_error : (x y : WholeError) (A : Type 0) → ◌≡◌ {A = Result A WholeError} (Err x) (Err y) → x ≡ y
+same_whole_error x y A is = cc

@@ -1,28 +1,94 @@
--- What words ask for.
-use Rattle.std.proofs.Common.{◌≡◌, Ok, refl, subst, sym}
-use Rattle.std.specs.Prelude.{IfOk, Result}
-use Rattle.hyperball.specs.declared.cli.gather.GatherWords.{GatherWords}
-use Rattle.hyperball.specs.declared.cli.one_node.NodeWords.{NodeWords}
-use Rattle.hyperball.specs.declared.cli.replay.ReplayWords.{ReplayWords}
-use Rattle.hyperball.specs.declared.cli.run.Said.{Said}
+-- What the words of a command line ask for, and how that ends.
+use Rattle.std.proofs.Common.{◌≡◌, ◌⊎◌, ℕ, Bool, List, inl, inr, refl, subst, sym, ap, true}
+use Rattle.std.specs.Prelude.{IfOk, None, Ok, Option, Result, Some}
+use Rattle.std.specs.Io.KnownBytes.{Keeps}
+use Rattle.clap.specs.Words.{Row, Text, subcommand_of}
+use Rattle.hyperball.specs.CommandLine.{Parsers, TakeNames, hyperball_app}
+use Rattle.hyperball.specs.Ends.{Does, FailsAlone, FailsRun, FailsWish, LeavesFault}
+use Rattle.hyperball.specs.Nodes.{IsGatherOf, IsNodeOf}
+use Rattle.hyperball.specs.Refusals.{DoesJob}
+use Rattle.hyperball.specs.Replaying.{IsReplayOf}
+use Rattle.hyperball.specs.Streams.{KeptOrFailed, Reads, Untouched, Writes}
+use Rattle.hyperball.specs.Wishes.{AsksWish, IsWishOf, NamesWish, ReadsAll, Says, with_lists_of}
+use Rattle.hyperball.specs.Words.{IsRunOf}
 use Rattle.hyperball.specs.declared.cli.Wish.{Wish}
 use Rattle.hyperball.specs.declared.cli.Wish.TheVariants as wish
 use Rattle.hyperball.specs.declared.cli.WordsError.{WordsError}
+use Rattle.hyperball.specs.declared.cli.gather.GatherWords.{GatherWords}
+use Rattle.hyperball.specs.declared.cli.one_node.NodeWords.{NodeWords}
+use Rattle.hyperball.specs.declared.cli.replay.ReplayWords.{ReplayWords}
+use Rattle.hyperball.specs.declared.cli.run.RunFault.{RunFault}
+use Rattle.hyperball.specs.declared.cli.run.RunFault.TheVariants as unrun
+use Rattle.hyperball.specs.declared.cli.run.RunWords.{RunWords}
 
--- what asks for a replay, where it asks
-pub is_replay : (r : Result Wish WordsError) (w : ReplayWords) → r ≡ Ok (wish.Replay w) → IfOk r (λ found. found ≡ wish.Replay w)
-is_replay r w is = subst (λ (o : Result Wish WordsError). IfOk o (λ found. found ≡ wish.Replay w)) (sym is) refl
+-- nothing was written
+pub keeps_same : (old new : Option (List ℕ)) → new ≡ old → Keeps old new
+keeps_same None new is = tt
+keeps_same (Some x) new is = subst (Keeps (Some x)) (sym is) refl
 
--- and for a node or for the report of checkpoints
-pub is_node : (r : Result Wish WordsError) (w : NodeWords) → r ≡ Ok (wish.Node w) → IfOk r (λ found. found ≡ wish.Node w)
-is_node r w is = subst (λ (o : Result Wish WordsError). IfOk o (λ found. found ≡ wish.Node w)) (sym is) refl
+pub untouched_kept : (r : Reads) (w : Writes) → Untouched r w → KeptOrFailed w
+untouched_kept r w none = inl (keeps_same w.contents.old w.contents.new none.unwritten)
 
-pub is_gather : (r : Result Wish WordsError) (w : GatherWords) → r ≡ Ok (wish.Gather w) → IfOk r (λ found. found ≡ wish.Gather w)
-is_gather r w is = subst (λ (o : Result Wish WordsError). IfOk o (λ found. found ≡ wish.Gather w)) (sym is) refl
+-- a run keeps what was written, or a write failed
+run_kept : (v : RunWords) (r : Reads) (w : Writes) (f : RunFault) → FailsRun v r w f → KeptOrFailed w
+run_kept v r w unrun.Gate fails = untouched_kept r w fails
+run_kept v r w unrun.Random fails = untouched_kept r w fails
+run_kept v r w (unrun.Job e) fails = fails.kept
 
--- what follows from each wish follows
-pub each_wish : {A : Type 0} → (x : Wish) → ((said : Said) → x ≡ wish.Run said → A) → ((w : ReplayWords) → x ≡ wish.Replay w → A) → ((w : NodeWords) → x ≡ wish.Node w → A) → ((w : GatherWords) → x ≡ wish.Gather w → A) → A
-each_wish (wish.Run said) run replay node gather = run said refl
-each_wish (wish.Replay w) run replay node gather = replay w refl
-each_wish (wish.Node w) run replay node gather = node w refl
-each_wish (wish.Gather w) run replay node gather = gather w refl
+-- what each wish leaves
+alone_leaves : (words : List Text) (x : Wish) (r : Reads) (w : Writes) → AsksWish words x → FailsAlone x r w → LeavesFault words r w
+alone_leaves words (wish.Run v) r w asks fails = inl (run_kept v r w fails.fault fails.due)
+alone_leaves words (wish.Replay v) r w asks fails = elim fails.due.begun [
+  | inl kept ↦ inl kept
+  | inr begun ↦ inr (inl (record { asks = asks; words_of = v; begun = begun }))
+]
+alone_leaves words (wish.Node v) r w asks fails = inr (inr (inl asks))
+alone_leaves words (wish.Gather v) r w asks fails = inr (inr (inr asks))
+
+pub wish_leaves : (words : List Text) (x : Wish) (r : Reads) (w : Writes) → AsksWish words x → FailsWish x r w → LeavesFault words r w
+wish_leaves words x r w asks (inl none) = inl (untouched_kept r w none)
+wish_leaves words x r w asks (inr fails) = alone_leaves words x r w asks fails
+
+-- a wish that is this one does what this one does
+done_run : (w v : RunWords) (r : Reads) (x : Writes) → with_lists_of w v ≡ w → DoesJob v.options v.counted r x → DoesJob w.options w.counted r x
+done_run w v r x says done =
+    subst (λ (u : RunWords). DoesJob u.options u.counted r x) says (record { reported = done.reported; unfailed = done.unfailed })
+
+pub says_done : (a x : Wish) (r : Reads) (w : Writes) → Says a x → Does x r w → Does a r w
+says_done (wish.Run a) (wish.Run v) r w says done = done_run a v r w says done
+says_done (wish.Run a) (wish.Replay v) r w says done = absurd says
+says_done (wish.Run a) (wish.Node v) r w says done = absurd says
+says_done (wish.Run a) (wish.Gather v) r w says done = absurd says
+says_done (wish.Replay a) x r w says done = subst (λ (y : Wish). Does y r w) says done
+says_done (wish.Node a) x r w says done = subst (λ (y : Wish). Does y r w) says done
+says_done (wish.Gather a) x r w says done = subst (λ (y : Wish). Does y r w) says done
+
+-- and reads the whole input where this one does
+pub says_reads : (a x : Wish) → Says a x → ReadsAll a → ReadsAll x
+says_reads (wish.Run a) (wish.Run v) says all = subst (λ (u : RunWords). u.counted ≡ true) (sym says) all
+says_reads (wish.Run a) (wish.Replay v) says all = absurd says
+says_reads (wish.Run a) (wish.Node v) says all = absurd says
+says_reads (wish.Run a) (wish.Gather v) says all = absurd says
+says_reads (wish.Replay a) x says all = subst ReadsAll (sym says) all
+says_reads (wish.Node a) x says all = subst ReadsAll (sym says) all
+says_reads (wish.Gather a) x says all = subst ReadsAll (sym says) all
+
+ok_wish : (r : Result Wish WordsError) (x : Wish) → r ≡ Ok x → IfOk r (λ y. y ≡ x)
+ok_wish r x is = subst (λ (o : Result Wish WordsError). IfOk o (λ y. y ≡ x)) (sym is) refl
+
+-- what is asked for by each command
+pub each_asked : (sub : Option (Text × List Row)) (r : Result Wish WordsError) →
+    ((w : RunWords) → IsRunOf sub w → IfOk r (Says (wish.Run w))) → ((w : ReplayWords) → IsReplayOf sub w → r ≡ Ok (wish.Replay w)) →
+    ((w : NodeWords) → IsNodeOf sub w → r ≡ Ok (wish.Node w)) → ((w : GatherWords) → IsGatherOf sub w → r ≡ Ok (wish.Gather w)) →
+    (a : Wish) → IsWishOf sub a → IfOk r (Says a)
+each_asked sub r run replay node gather (wish.Run w) is = run w is
+each_asked sub r run replay node gather (wish.Replay w) is = ok_wish r (wish.Replay w) (replay w is)
+each_asked sub r run replay node gather (wish.Node w) is = ok_wish r (wish.Node w) (node w is)
+each_asked sub r run replay node gather (wish.Gather w) is = ok_wish r (wish.Gather w) (gather w is)
+
+-- a wish by its name
+pub asks_wish : (words : List Text) (x : Wish) (p : Parsers) → TakeNames p → NamesWish (subcommand_of (hyperball_app p) words) x → AsksWish words x
+asks_wish words (wish.Run w) p take names = tt
+asks_wish words (wish.Replay w) p take names = record { parsers = p; take = take; named = names }
+asks_wish words (wish.Node w) p take names = record { parsers = p; take = take; named = names }
+asks_wish words (wish.Gather w) p take names = record { parsers = p; take = take; named = names }

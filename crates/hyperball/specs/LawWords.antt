@@ -12,34 +12,59 @@ use Rattle.hyperball.specs.declared.cli.replay.ReplayWords.{ReplayWords}
 use Rattle.hyperball.specs.declared.cli.run.RunWords.{RunWords}
 use Rattle.hyperball.specs.Words.{usual_options}
 
-abbrev pub log2m_words : RunWords
-log2m_words = record { options = record usual_options { log2m = 4 }; counted = false }
-
-abbrev pub space_words : RunWords
-space_words = record {
-  options = record usual_options { delimiter = Space; limit = 5000 };
+-- a run of which no option is given, with the lists of orders of another, which these laws say nothing of
+abbrev pub usual_run : RunWords → RunWords
+usual_run w = record {
+  options = record w.options {
+    log2m = 8;
+    seed = 0;
+    parts = 1;
+    limit = greatest_limit;
+    estimate = Raw;
+    delimiter = Tab;
+    large = false;
+    threads = 0;
+    replicas = 1;
+    entries = 1048576;
+    keep = 1;
+    patience = 1000000;
+  };
   counted = false;
+  progress = false;
 }
 
-abbrev pub corrected_words : RunWords
-corrected_words = record {
-  options = record usual_options { estimate = Corrected };
-  counted = false;
+abbrev pub log2m_words : RunWords → RunWords
+log2m_words w = record (usual_run w) { options = record (usual_run w).options { log2m = 4 } }
+
+abbrev pub space_words : RunWords → RunWords
+space_words w = record (usual_run w) {
+  options = record (usual_run w).options { delimiter = Space; limit = 5000 };
 }
 
-abbrev pub counted_words : RunWords
-counted_words = record { options = record usual_options { parts = 2 }; counted = true }
-
-abbrev pub node_words : RunWords
-node_words = record {
-  options = record usual_options { replicas = 2; keep = 0 };
-  counted = false;
+abbrev pub corrected_words : RunWords → RunWords
+corrected_words w = record (usual_run w) {
+  options = record (usual_run w).options { estimate = Corrected };
 }
 
-abbrev pub board_words : RunWords
-board_words = record {
-  options = record usual_options { entries = 64; patience = 10; threads = 2; large = true };
-  counted = false;
+abbrev pub counted_words : RunWords → RunWords
+counted_words w = record (usual_run w) {
+  options = record (usual_run w).options { parts = 2 };
+  counted = true;
+}
+
+abbrev pub node_words : RunWords → RunWords
+node_words w = record (usual_run w) {
+  options = record (usual_run w).options { replicas = 2; keep = 0 };
+}
+
+abbrev pub board_words : RunWords → RunWords
+board_words w = record (usual_run w) {
+  options = record (usual_run w).options {
+    entries = 64;
+    patience = 10;
+    threads = 2;
+    large = true;
+  };
 }
 
 -- the options of a replay where none is given
@@ -81,19 +106,7 @@ two_orders = (record { part = 0; replica = 1 }, 2) ∷ (record { part = 1; repli
 
 -- what is asked of a job where no option is given
 abbrev pub usual_job : JobInput
-usual_job = record {
-  options = record {
-    log2m = 8;
-    seed = 0;
-    parts = 1;
-    limit = greatest_limit;
-    estimate = Raw;
-    delimiter = Tab;
-    large = false;
-    threads = 0;
-  };
-  counted = false;
-}
+usual_job = record { options = usual_options; counted = false }
 
 abbrev pub usual_node : NodeWords
 usual_node = record { job = usual_job; part = 0; progress = false }

@@ -1,6 +1,5 @@
 pub mod CommandLine
 pub mod Words
-pub mod Options
 pub mod Whole
 pub mod Streams
 pub mod LawWords
@@ -9,4 +8,5 @@ pub mod Orders
 pub mod Refusals
 pub mod Nodes
 pub mod Progress
-pub mod Faults
+pub mod Wishes
+pub mod Ends

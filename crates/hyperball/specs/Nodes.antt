@@ -1,26 +1,12 @@
 -- What the words of a node and of a gathering say.
-use Rattle.std.specs.Prelude.{◌≡◌, List, [], Option, Some, option_map, codes}
+use Rattle.std.specs.Prelude.{◌≡◌, List, Option, Some, option_map, codes}
 use Rattle.clap.specs.Words.{Row, Text, subcommand_of}
-use Rattle.node.specs.declared.job.JobInput.{JobInput}
 use Rattle.hyperball.specs.CommandLine.{Parsers, TakeNames, hyperball_app}
-use Rattle.hyperball.specs.Words.{HasFaults, IsFlag, IsNamedOr, IsNumberOr}
-use Rattle.hyperball.specs.Words.{delimiter_name, estimate_name, usual_options}
+use Rattle.hyperball.specs.Words.{AreJobOptionsOf, IsFlag, IsNumberOr, usual_options}
 use Rattle.hyperball.specs.declared.cli.gather.GatherWords.{GatherWords}
 use Rattle.hyperball.specs.declared.cli.one_node.NodeWords.{NodeWords}
 
--- the options of a job have these values, but for the flag of large edge lists and the number of threads
-pub record AreJobOptionsOf (rows : List Row) (job : JobInput) : Type 0 where
-  pub log2m : IsNumberOr usual_options.log2m 8 rows (codes "log2m") job.options.log2m
-  pub seed : IsNumberOr usual_options.seed 64 rows (codes "seed") job.options.seed
-  pub parts : IsNumberOr usual_options.parts 16 rows (codes "parts") job.options.parts
-  pub limit : IsNumberOr usual_options.limit 32 rows (codes "limit") job.options.limit
-  pub estimate : IsNamedOr usual_options.estimate estimate_name
-      rows (codes "estimate") job.options.estimate
-  pub delimiter : IsNamedOr usual_options.delimiter delimiter_name
-      rows (codes "delimiter") job.options.delimiter
-  pub counted : IsFlag rows (codes "counted") job.counted
-
--- and the flag, the partition of a node, which has no number of threads, and whether it tells its progress
+-- the options of a node have these values: it has no number of threads
 pub record AreNodeOptionsOf (rows : List Row) (w : NodeWords) : Type 0 where
   pub job : AreJobOptionsOf rows w.job
   pub large : IsFlag rows (codes "large") w.job.options.large
@@ -28,7 +14,7 @@ pub record AreNodeOptionsOf (rows : List Row) (w : NodeWords) : Type 0 where
   pub part : IsNumberOr 0 16 rows (codes "part") w.part
   pub progress : IsFlag rows (codes "progress") w.progress
 
--- and the flag, how many threads a gathering has, and whether it tells its progress
+-- the options of a gathering have these values
 pub record AreGatherOptionsOf (rows : List Row) (w : GatherWords) : Type 0 where
   pub job : AreJobOptionsOf rows w.job
   pub large : IsFlag rows (codes "large") w.job.options.large
@@ -42,17 +28,6 @@ IsNodeOf sub w = (rows : List Row) × (sub ≡ Some (codes "node", rows)) × Are
 abbrev pub IsGatherOf : Option (Text × List Row) → GatherWords → Type 0
 IsGatherOf sub w =
     (rows : List Row) × (sub ≡ Some (codes "gather", rows)) × AreGatherOptionsOf rows w
-
--- the words are read as those of node, with these options or their defaults
-pub record IsNode (words : List Text) (w : NodeWords) : Type 0 where
-  pub accepted : HasFaults words []
-  pub command : (p : Parsers) → TakeNames p → IsNodeOf (subcommand_of (hyperball_app p) words) w
-
--- the words are read as those of gather, with these options or their defaults
-pub record IsGather (words : List Text) (w : GatherWords) : Type 0 where
-  pub accepted : HasFaults words []
-  pub command : (p : Parsers) → TakeNames p →
-      IsGatherOf (subcommand_of (hyperball_app p) words) w
 
 -- the subcommand is node
 abbrev pub NamesNode : Option (Text × List Row) → Type 0

@@ -1,8 +1,11 @@
--- Inputs that are read whole.
+-- Inputs that are read whole, and their parts.
 use Rattle.std.specs.Prelude.{◌≡◌, ℕ, ◌+◌, ◌<◌, Bool, true, false, List, length}
-use Rattle.std.specs.Prelude.{Option, None, Some, IfSome, option_map}
+use Rattle.std.specs.Prelude.{Option, None, Some, IfSome, Result, Ok, Err}
 use Rattle.ball_model.specs.Sections.{sections_of}
 use Rattle.ball_model.specs.Streams.{Rises, RisesByOne, TakesAtMost}
+use Rattle.hyperball.specs.Streams.{Reads}
+use Rattle.hyperball.specs.declared.whole.Lack.{Lack}
+use Rattle.hyperball.specs.declared.whole.Lack.TheVariants as lack
 use Rattle.hyperball.specs.declared.whole.WholeError.{WholeError}
 use Rattle.hyperball.specs.declared.whole.WholeError.TheVariants as fault
 use Rattle.node.specs.declared.limits.TheConstants.{MOST_BYTES}
@@ -21,16 +24,34 @@ IsLong old = IfSome old (λ input. MOST_BYTES < length input)
 
 -- a reader whose input was to be read whole, and which of the faults is told of it: each for its reason alone, a failed
 -- read wherever a call failed, and none of a reader all of whose calls are sure
-pub record ReadsWhole {R : Type 0} (bytes : R → Option (List ℕ)) (count : R → ℕ)
-    (good : R → Option ℕ) (old new : R) (told : WholeError → Type 0) : Type 0 where
-  pub size : told fault.Size → IsLong (bytes old)
-  pub memory : told fault.Memory → TakesAtMost MOST_BYTES (bytes old) (bytes new)
-  pub read : told fault.Read → RisesByOne (count old) (count new)
-  pub failed : Rises (count old) (count new) → told fault.Read
-  pub sure : good old ≡ None → told fault.Read → ⊥
-  pub few : ReadsFew (bytes old) (bytes new)
+pub record ReadsWhole (r : Reads) (told : WholeError → Type 0) : Type 0 where
+  pub size : told fault.Size → IsLong r.bytes.old
+  pub memory : told fault.Memory → TakesAtMost MOST_BYTES r.bytes.old r.bytes.new
+  pub read : told fault.Read → RisesByOne r.failed.old r.failed.new
+  pub failed : Rises r.failed.old r.failed.new → told fault.Read
+  pub sure : r.sure ≡ None → told fault.Read → ⊥
+  pub few : ReadsFew r.bytes.old r.bytes.new
 
--- the edge list in an input, and the list of counted vertices: with one they are the two sections
-abbrev pub sections_in : Bool → List ℕ → Option (List ℕ × Option (List ℕ))
-sections_in false input = Some (input, None)
-sections_in true input = option_map (λ sections. (sections.0, Some sections.1)) (sections_of input)
+-- an edge list, and a list of counted vertices and a script where there are such
+pub record Parts : Type 0 where
+  pub edges : List ℕ
+  pub list : Option (List ℕ)
+  pub script : Option (List ℕ)
+
+-- what the sections before the first mark and after it give; where there is no mark a part is missing
+abbrev pub at_mark : Lack → Option (List ℕ × List ℕ) → (List ℕ → List ℕ → Result Parts Lack) →
+    Result Parts Lack
+at_mark missing None give = Err missing
+at_mark missing (Some s) give = give s.0 s.1
+
+-- the parts of an input that is to have a list or not, and a script or not, with a mark before each; or the first that is
+-- missing
+abbrev pub parts_in : Bool → Bool → List ℕ → Result Parts Lack
+parts_in false false input = Ok (record { edges = input; list = None; script = None })
+parts_in true false input = at_mark lack.List (sections_of input) (λ edges list.
+    Ok (record { edges = edges; list = Some list; script = None }))
+parts_in false true input = at_mark lack.Script (sections_of input) (λ edges script.
+    Ok (record { edges = edges; list = None; script = Some script }))
+parts_in true true input = at_mark lack.List (sections_of input) (λ edges rest.
+    at_mark lack.Script (sections_of rest) (λ list script.
+    Ok (record { edges = edges; list = Some list; script = Some script })))

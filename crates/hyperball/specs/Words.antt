@@ -11,30 +11,26 @@ use Rattle.clap.specs.declared.parser.matches.ArgMatches.{ArgMatches}
 use Rattle.clap.specs.declared.error.kind.ErrorKind.{ErrorKind}
 use Rattle.clap.specs.declared.error.kind.ErrorKind.TheVariants as kind
 use Rattle.ball_model.specs.PlanValue.{greatest_limit}
-use Rattle.ball_model.specs.RunText.{AppendsReport, ArePlain}
 use Rattle.ball_model.specs.declared.plan.Estimate.{Estimate}
 use Rattle.ball_model.specs.declared.plan.Estimate.TheVariants.{Raw, Corrected}
 use Rattle.edgelist.specs.declared.read.Delimiter.{Delimiter}
 use Rattle.edgelist.specs.declared.read.Delimiter.TheVariants.{Tab, Comma, Space}
 use Rattle.ball_model.specs.declared.names.NodeId.{NodeId}
-use Rattle.hyperball.specs.declared.options.Options.{Options}
-use Rattle.hyperball.specs.declared.options.Orders.{Orders}
+use Rattle.edgelist.specs.declared.job.JobOptions.{JobOptions}
 use Rattle.hyperball.specs.declared.cli.run.RunWords.{RunWords}
-use Rattle.hyperball.specs.declared.cli.Wish.{Wish}
-use Rattle.hyperball.specs.declared.cli.Wish.TheVariants as wish
 use Rattle.hyperball.specs.declared.cli.WordsError.{WordsError}
 use Rattle.hyperball.specs.declared.cli.WordsError.TheVariants as words
 use Rattle.hyperball.specs.CommandLine.{Parsers, TakeNames, hyperball_app}
-use Rattle.hyperball.specs.Options.{settings_in}
 use Rattle.hyperball.specs.Orders.{AreOrders}
-use Rattle.hyperball.specs.Whole.{sections_in}
+use Rattle.node.specs.declared.job.JobInput.{JobInput}
+use Rattle.workers.specs.Options.{run_job}
 
 -- the words of a command line as texts
 abbrev pub texts_of : List (String Global) → List Text
 texts_of words = map (λ w. string_bytes w) words
 
--- the options where none is given
-abbrev pub usual_options : Options
+-- the options of a job where none is given
+abbrev pub usual_options : JobOptions
 usual_options = record {
   log2m = 8;
   seed = 0;
@@ -43,10 +39,6 @@ usual_options = record {
   estimate = Raw;
   delimiter = Tab;
   large = false;
-  replicas = 1;
-  entries = 1048576;
-  keep = 1;
-  patience = 1000000;
   threads = 0;
 }
 
@@ -86,23 +78,32 @@ flag_text false = codes "false"
 abbrev pub IsFlag : List Row → Text → Bool → Type 0
 IsFlag rows id b = MatchOption (one_of id rows) (b ≡ false) (λ text. text ≡ flag_text b)
 
--- the options have these values
-pub record AreOptionsOf (rows : List Row) (w : RunWords) : Type 0 where
-  pub log2m : IsNumberOr usual_options.log2m 8 rows (codes "log2m") w.options.log2m
-  pub seed : IsNumberOr usual_options.seed 64 rows (codes "seed") w.options.seed
-  pub parts : IsNumberOr usual_options.parts 16 rows (codes "parts") w.options.parts
-  pub limit : IsNumberOr usual_options.limit 32 rows (codes "limit") w.options.limit
+-- the options of a job have these values, but for the flag of large edge lists and the number of threads
+pub record AreJobOptionsOf (rows : List Row) (job : JobInput) : Type 0 where
+  pub log2m : IsNumberOr usual_options.log2m 8 rows (codes "log2m") job.options.log2m
+  pub seed : IsNumberOr usual_options.seed 64 rows (codes "seed") job.options.seed
+  pub parts : IsNumberOr usual_options.parts 16 rows (codes "parts") job.options.parts
+  pub limit : IsNumberOr usual_options.limit 32 rows (codes "limit") job.options.limit
   pub estimate : IsNamedOr usual_options.estimate estimate_name
-      rows (codes "estimate") w.options.estimate
+      rows (codes "estimate") job.options.estimate
   pub delimiter : IsNamedOr usual_options.delimiter delimiter_name
-      rows (codes "delimiter") w.options.delimiter
+      rows (codes "delimiter") job.options.delimiter
+  pub counted : IsFlag rows (codes "counted") job.counted
+
+-- what a run asks of its job
+abbrev pub run_input : RunWords → JobInput
+run_input w = record { options = run_job w.options; counted = w.counted }
+
+-- the options of a run have these values, whatever its lists of orders are
+pub record AreOptionsOf (rows : List Row) (w : RunWords) : Type 0 where
+  pub job : AreJobOptionsOf rows (run_input w)
   pub large : IsFlag rows (codes "large") w.options.large
-  pub replicas : IsNumberOr usual_options.replicas 8 rows (codes "replicas") w.options.replicas
-  pub entries : IsNumberOr usual_options.entries 32 rows (codes "entries") w.options.entries
-  pub keep : IsNumberOr usual_options.keep 32 rows (codes "keep") w.options.keep
-  pub patience : IsNumberOr usual_options.patience 32 rows (codes "patience") w.options.patience
   pub threads : IsNumberOr usual_options.threads 16 rows (codes "threads") w.options.threads
-  pub counted : IsFlag rows (codes "counted") w.counted
+  pub replicas : IsNumberOr 1 8 rows (codes "replicas") w.options.replicas
+  pub entries : IsNumberOr 1048576 32 rows (codes "entries") w.options.entries
+  pub keep : IsNumberOr 1 32 rows (codes "keep") w.options.keep
+  pub patience : IsNumberOr 1000000 32 rows (codes "patience") w.options.patience
+  pub progress : IsFlag rows (codes "progress") w.progress
 
 -- the subcommand is run, with these options or their defaults
 abbrev pub IsRunOf : Option (Text × List Row) → RunWords → Type 0
@@ -121,10 +122,10 @@ GivesOrders sub = IfSome sub (λ s. AreOrdersIn s.1)
 abbrev pub IsListed : List Row → Text → List (NodeId × ℕ) → Type 0
 IsListed rows id os = MatchOption (first_of id rows) (os ≡ []) (λ text. AreOrders text os)
 
--- the lists of orders are those of the options
-pub record AreListed (rows : List Row) (orders : Orders) : Type 0 where
-  pub lose : IsListed rows (codes "lose") orders.lose.items
-  pub restart : IsListed rows (codes "restart") orders.restart.items
+-- these lists of orders are those of the options
+pub record AreListed (rows : List Row) (lost restarted : List (NodeId × ℕ)) : Type 0 where
+  pub lose : IsListed rows (codes "lose") lost
+  pub restart : IsListed rows (codes "restart") restarted
 
 -- each value of these options is a list of orders
 pub record SpellLists (rows : List Row) : Type 0 where
@@ -140,33 +141,13 @@ GivesLists sub = MatchOption sub ⊥ (λ s. SpellLists s.1)
 abbrev pub MisspellsLists : Option (Text × List Row) → Type 0
 MisspellsLists sub = MatchOption sub ⊥ (λ s. SpellLists s.1 → ⊥)
 
--- a run has the orders of the subcommand's options
-abbrev pub SaysListed : Option (Text × List Row) → Wish → Type 0
-SaysListed sub (wish.Run said) = IfSome sub (λ s. AreListed s.1 said.orders)
-SaysListed sub (wish.Replay words) = ⊤
-SaysListed sub (wish.Node words) = ⊤
-SaysListed sub (wish.Gather words) = ⊤
-
 -- the subcommand has the flag of progress or not
 abbrev pub GivesProgress : Option (Text × List Row) → Bool → Type 0
 GivesProgress sub b = IfSome sub (λ s. IsFlag s.1 (codes "progress") b)
 
--- progress is to be told or not
-abbrev pub SaysProgress : Bool → Wish → Type 0
-SaysProgress b (wish.Run said) = said.progress ≡ b
-SaysProgress b (wish.Replay words) = words.progress ≡ b
-SaysProgress b (wish.Node words) = words.progress ≡ b
-SaysProgress b (wish.Gather words) = words.progress ≡ b
-
 -- what the program's command finds wrong with the words
 pub record HasFaults (words : List Text) (kinds : List ErrorKind) : Type 0 where
   pub are : (p : Parsers) → TakeNames p → fault_of (hyperball_app p) words ≡ kinds
-
--- the words are read as those of run, with these options or their defaults
-pub record IsRun (words : List Text) (w : RunWords) : Type 0 where
-  pub accepted : HasFaults words []
-  pub command : (p : Parsers) → TakeNames p →
-      IsRunOf (subcommand_of (hyperball_app p) words) w
 
 -- the words, where they are not refused, ask for progress or not
 pub record AsksProgress (words : List Text) (b : Bool) : Type 0 where
@@ -190,12 +171,6 @@ pub record HasNoLists (words : List Text) : Type 0 where
   pub take : TakeNames parsers
   pub misspelt : MisspellsLists (subcommand_of (hyperball_app parsers) words)
 
--- a run has the orders of the words, as some parsers read them
-pub record SaysOrders (words : List Text) (asked : Wish) : Type 0 where
-  pub parsers : Parsers
-  pub take : TakeNames parsers
-  pub listed : SaysListed (subcommand_of (hyperball_app parsers) words) asked
-
 -- parsers take their names, and the program's command with them reads the words so
 pub record ParsesTo (words : List Text) (result : Result ArgMatches Error) : Type 0 where
   pub parsers : Parsers
@@ -218,20 +193,3 @@ IsMistake k = (k ≢ kind.OutOfMemory) × ((k ≢ kind.DisplayHelp) × (k ≢ ki
 -- there is a fault, and each is a mistake
 abbrev pub AreMistakes : List ErrorKind → Type 0
 AreMistakes kinds = (kinds ≢ []) × AllByRecursion IsMistake kinds
-
--- the report of what the run finds in the input is appended, where that is plain
-pub record Reports (w : RunWords) (input : List ℕ) (old new : Option (List ℕ)) : Type 0 where
-  pub edges : List ℕ
-  pub list : Option (List ℕ)
-  pub found : sections_in w.counted input ≡ Some (edges, list)
-  pub appended : ArePlain edges list → AppendsReport (settings_in w.options) edges list old new
-
--- what a run with a list of counted vertices is asked
-abbrev pub listed_words : Options → RunWords
-listed_words options = record { options = options; counted = true }
-
--- a writer of these contents is given what words ask of an input, where the reader tells its bytes
-abbrev pub Serves : {W : Type 0} → RunWords → Option (List ℕ) →
-    (W → Option (List ℕ)) → W → W → Type 0
-Serves w told contents old new =
-    IfSome told (λ input. Reports w input (contents old) (contents new))

@@ -1,27 +1,18 @@
 //! The command line, read by `clap`: the subcommands, each in a file with its words and what they do, and what the words
 //! of a whole line ask for.
 
-ghost use Rattle.std.specs.Prelude.{◌≡◌, [], Err, IfOk, List};
-ghost use Rattle.std.specs.Prelude.{true, Bool, Ok};
-ghost use Rattle.clap.specs.Words.{App, has_subcommand};
-ghost use Rattle.clap.specs.Words.{subcommand_rows_of, with_subcommand};
-ghost use Rattle.clap.specs.declared.error.kind.ErrorKind.{ErrorKind as Kind};
-ghost use Rattle.hyperball.specs.CommandLine.{IsApp, Parsers, TakeNames};
-ghost use Rattle.hyperball.specs.CommandLine.{hyperball_app};
+ghost use Rattle.std.specs.Prelude.{◌≡◌, [], Bool, Err, IfOk, List, Ok, true};
+ghost use Rattle.clap.specs.Words.{App, has_subcommand, subcommand_rows_of, with_subcommand};
+ghost use Rattle.clap.specs.declared.error.kind.ErrorKind.{ErrorKind};
+ghost use Rattle.hyperball.specs.CommandLine.{IsApp, Parsers, TakeNames, hyperball_app};
 ghost use Rattle.hyperball.specs.CommandLine.{new_hyperball};
-ghost use Rattle.hyperball.specs.declared.cli.run.RunWords.{RunWords as Run};
-ghost use Rattle.hyperball.specs.Replaying.{AsksReplay, IsReplay, IsReplayOf, NamesReplay, SaysRun};
-ghost use Rattle.hyperball.specs.declared.cli.replay.ReplayWords.{ReplayWords as Replayed};
-ghost use Rattle.hyperball.specs.Words.{FailsWith};
-ghost use Rattle.hyperball.specs.Words.{GivesLists, GivesOrders, HasFaults, HasLists, HasNoLists};
-ghost use Rattle.hyperball.specs.Words.{HasOrders, IsRun, IsRunOf, MisspellsLists};
-ghost use Rattle.hyperball.specs.Words.{ParsesTo, SaysListed, AsksProgress, GivesProgress};
-ghost use Rattle.hyperball.specs.Words.{SaysOrders, SaysProgress};
-ghost use Rattle.hyperball.specs.Words.{texts_of};
-ghost use Rattle.hyperball.specs.Nodes.{AsksGather, AsksNode, IsGather, IsGatherOf, IsNode};
-ghost use Rattle.hyperball.specs.Nodes.{IsNodeOf, NamesGather, NamesNode};
-ghost use Rattle.hyperball.specs.declared.cli.gather.GatherWords.{GatherWords as Gathered};
-ghost use Rattle.hyperball.specs.declared.cli.one_node.NodeWords.{NodeWords as Noded};
+ghost use Rattle.hyperball.specs.Nodes.{IsGatherOf, IsNodeOf};
+ghost use Rattle.hyperball.specs.Replaying.{IsReplayOf};
+ghost use Rattle.hyperball.specs.Wishes.{AsksWish, IsWish, NamesWish, Says, SaysListed};
+ghost use Rattle.hyperball.specs.Wishes.{SaysOrders, tells_progress};
+ghost use Rattle.hyperball.specs.Words.{AsksProgress, FailsWith, GivesLists, GivesOrders};
+ghost use Rattle.hyperball.specs.Words.{GivesProgress, HasFaults, HasLists, HasNoLists};
+ghost use Rattle.hyperball.specs.Words.{HasOrders, IsRunOf, MisspellsLists, ParsesTo, texts_of};
 
 pub mod arguments;
 pub mod gather;
@@ -36,7 +27,7 @@ use crate::cli::job::{delimiters, estimates};
 use crate::cli::one_node::{NodeWords, node_command, node_words_of};
 use crate::cli::orders::OrdersError;
 use crate::cli::replay::{ReplayWords, replay_command, replay_words_of};
-use crate::cli::run::{Said, run_command, run_words};
+use crate::cli::run::{RunWords, run_command, run_words};
 use clap::{ArgMatches, Command, Error};
 use std::alloc::{AllocError, Global};
 
@@ -93,13 +84,36 @@ fn parse<'a>(alloc: Global, words: &'a [String]) -> Result<ArgMatches<'a>, Error
 #[derive(Drop)]
 pub enum Wish {
     /// A run.
-    Run(Said),
+    Run(RunWords),
     /// A replay.
     Replay(ReplayWords),
     /// A node of a partition.
     Node(NodeWords),
     /// The report of checkpoints.
     Gather(GatherWords),
+}
+
+impl Wish {
+    /// Whether progress is to be told.
+    pub fn tells_progress(&self) -> bool
+        ensures { result ≡ tells_progress self.now }
+    {
+        match self {
+            Wish::Run(words) => words.progress,
+            Wish::Replay(words) => words.progress,
+            Wish::Node(words) => words.progress,
+            Wish::Gather(words) => words.progress,
+        }
+    }
+}
+
+/// What serves a wish: the machine, and who tells how it gets on, where that is to be told.
+#[derive(Drop)]
+pub struct Server<'a, H, T> {
+    /// What gives memory, random words, threads and the time.
+    pub rt: &'a H,
+    /// Who tells how it gets on.
+    pub teller: &'a Option<T>,
 }
 
 /// Why words are no command.
@@ -114,23 +128,18 @@ pub enum WordsError {
 // What the words of a subcommand say.
 fn wish_of(alloc: Global, matches: &ArgMatches<'_>) -> Result<Wish, WordsError>
     requires { has_subcommand matches.now ≡ true }
-    ensures run { (w : Run) → IsRunOf (subcommand_rows_of matches.now) w →
-        IfOk result (SaysRun w) }
-    ensures replay { (w : Replayed) → IsReplayOf (subcommand_rows_of matches.now) w →
+    ensures run { (w : RunWords) → IsRunOf (subcommand_rows_of matches.now) w →
+        IfOk result (Says (Wish.Run w)) }
+    ensures replay { (w : ReplayWords) → IsReplayOf (subcommand_rows_of matches.now) w →
         result ≡ Ok (Wish.Replay w) }
-    ensures asks { (w : Replayed) → result ≡ Ok (Wish.Replay w) →
-        NamesReplay (subcommand_rows_of matches.now) }
-    ensures node { (w : Noded) → IsNodeOf (subcommand_rows_of matches.now) w →
+    ensures node { (w : NodeWords) → IsNodeOf (subcommand_rows_of matches.now) w →
         result ≡ Ok (Wish.Node w) }
-    ensures gather { (w : Gathered) → IsGatherOf (subcommand_rows_of matches.now) w →
+    ensures gather { (w : GatherWords) → IsGatherOf (subcommand_rows_of matches.now) w →
         result ≡ Ok (Wish.Gather w) }
-    ensures names_node { (w : Noded) → result ≡ Ok (Wish.Node w) →
-        NamesNode (subcommand_rows_of matches.now) }
-    ensures names_gather { (w : Gathered) → result ≡ Ok (Wish.Gather w) →
-        NamesGather (subcommand_rows_of matches.now) }
+    ensures names { IfOk result (NamesWish (subcommand_rows_of matches.now)) }
     ensures orders { IfOk result (SaysListed (subcommand_rows_of matches.now)) }
     ensures progress { (b : Bool) → GivesProgress (subcommand_rows_of matches.now) b →
-        IfOk result (SaysProgress b) }
+        IfOk result (λ wish. tells_progress wish ≡ b) }
     ensures none { FailsWith [] result }
     ensures form { result ≡ Err (WordsError.Orders OrdersError.Form) →
         GivesOrders (subcommand_rows_of matches.now) }
@@ -144,7 +153,7 @@ fn wish_of(alloc: Global, matches: &ArgMatches<'_>) -> Result<Wish, WordsError>
         ("node", inner) => Ok(Wish::Node(node_words_of(inner))),
         ("gather", inner) => Ok(Wish::Gather(gather_words_of(inner))),
         _ => match run_words(alloc, matches) {
-            Ok(said) => Ok(Wish::Run(said)),
+            Ok(words) => Ok(Wish::Run(words)),
             Err(error) => Err(error),
         },
     }
@@ -153,21 +162,12 @@ fn wish_of(alloc: Global, matches: &ArgMatches<'_>) -> Result<Wish, WordsError>
 /// What the words of a command line ask for. The error is why they ask for nothing: lists of orders are read where
 /// `clap` finds nothing wrong.
 pub fn read_words(alloc: Global, words: &[String]) -> Result<Wish, WordsError>
-    ensures run { (w : Run) → IsRun (texts_of words.now) w → IfOk result (SaysRun w) }
-    ensures replay { (w : Replayed) → IsReplay (texts_of words.now) w →
-        IfOk result (λ wish. wish ≡ Wish.Replay w) }
-    ensures asks { (w : Replayed) → result ≡ Ok (Wish.Replay w) → AsksReplay (texts_of words.now) }
-    ensures node { (w : Noded) → IsNode (texts_of words.now) w →
-        IfOk result (λ wish. wish ≡ Wish.Node w) }
-    ensures gather { (w : Gathered) → IsGather (texts_of words.now) w →
-        IfOk result (λ wish. wish ≡ Wish.Gather w) }
-    ensures asks_node { (w : Noded) → result ≡ Ok (Wish.Node w) → AsksNode (texts_of words.now) }
-    ensures asks_gather { (w : Gathered) → result ≡ Ok (Wish.Gather w) →
-        AsksGather (texts_of words.now) }
+    ensures asked { (x : Wish) → IsWish (texts_of words.now) x → IfOk result (Says x) }
+    ensures asks { IfOk result (AsksWish (texts_of words.now)) }
     ensures orders { IfOk result (SaysOrders (texts_of words.now)) }
     ensures progress { (b : Bool) → AsksProgress (texts_of words.now) b →
-        IfOk result (SaysProgress b) }
-    ensures faults { (kinds : List Kind) → HasFaults (texts_of words.now) kinds →
+        IfOk result (λ wish. tells_progress wish ≡ b) }
+    ensures faults { (kinds : List ErrorKind) → HasFaults (texts_of words.now) kinds →
         FailsWith kinds result }
     ensures form { result ≡ Err (WordsError.Orders OrdersError.Form) →
         HasOrders (texts_of words.now) }

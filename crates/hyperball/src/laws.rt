@@ -16,38 +16,40 @@ ghost use Rattle.hyperball.specs.LawWords.{space_words, gathered_job, telling_ga
 ghost use Rattle.hyperball.specs.LawWords.{telling_node, third_node, usual_node, usual_replay};
 ghost use Rattle.hyperball.specs.LawWords.{one_order, two_orders};
 ghost use Rattle.hyperball.specs.Orders.{AreOrders};
-ghost use Rattle.hyperball.specs.Nodes.{AsksGather, AsksNode, IsGather, IsNode};
+ghost use Rattle.hyperball.specs.Nodes.{AsksGather, AsksNode};
 ghost use Rattle.hyperball.specs.Progress.{IsLineBehind, line_of, mark_of_program};
-ghost use Rattle.hyperball.specs.Replaying.{AsksReplay, IsReplay};
-ghost use Rattle.hyperball.specs.Words.{AsksProgress, HasFaults, IsRun};
-ghost use Rattle.hyperball.specs.declared.cli.gather.GatherWords.{GatherWords as Gathered};
-ghost use Rattle.hyperball.specs.declared.cli.one_node.NodeWords.{NodeWords as Noded};
-ghost use Rattle.hyperball.specs.declared.cli.replay.ReplayWords.{ReplayWords as Replayed};
-ghost use Rattle.hyperball.specs.declared.told.Told.{Told as News};
-ghost use Rattle.hyperball.specs.declared.cli.run.RunWords.{RunWords as Run};
+ghost use Rattle.hyperball.specs.Replaying.{AsksReplay};
+ghost use Rattle.hyperball.specs.Wishes.{IsGather, IsNode, IsReplay, IsRun};
+ghost use Rattle.hyperball.specs.Words.{AsksProgress, HasFaults};
+ghost use Rattle.hyperball.specs.declared.cli.gather.GatherWords.{GatherWords};
+ghost use Rattle.hyperball.specs.declared.cli.one_node.NodeWords.{NodeWords};
+ghost use Rattle.hyperball.specs.declared.cli.replay.ReplayWords.{ReplayWords};
+ghost use Rattle.hyperball.specs.declared.lines.News.{News};
+ghost use Rattle.hyperball.specs.declared.cli.run.RunWords.{RunWords};
 
-/// These words are read as those of run; an option that is not given has its default.
+/// These words are read as those of run; an option that is not given has its default. (Of lists of orders nothing is said
+/// here.)
 pub fn words_of_a_run()
-    ensures log2m { IsRun
+    ensures log2m { (w : RunWords) → IsRun
         (codes "hyperball" ∷ codes "run" ∷ codes "--log2m" ∷ codes "4" ∷ [])
-        log2m_words }
-    ensures limit { IsRun
+        (log2m_words w) }
+    ensures limit { (w : RunWords) → IsRun
         (codes "hyperball" ∷ codes "run" ∷ codes "--delimiter=space" ∷ codes "--limit=5000" ∷ [])
-        space_words }
-    ensures estimate { IsRun
+        (space_words w) }
+    ensures estimate { (w : RunWords) → IsRun
         (codes "hyperball" ∷ codes "run" ∷ codes "--estimate" ∷ codes "corrected" ∷ [])
-        corrected_words }
-    ensures counted { IsRun
+        (corrected_words w) }
+    ensures counted { (w : RunWords) → IsRun
         (codes "hyperball" ∷ codes "run" ∷ codes "--counted" ∷ codes "--parts" ∷ codes "2" ∷ [])
-        counted_words }
-    ensures nodes { IsRun
+        (counted_words w) }
+    ensures nodes { (w : RunWords) → IsRun
         (codes "hyperball" ∷ codes "run" ∷ codes "--replicas" ∷ codes "2" ∷ codes "--keep=0"
         ∷ codes "--lose" ∷ codes "0.1@2" ∷ [])
-        node_words }
-    ensures board { IsRun
+        (node_words w) }
+    ensures board { (w : RunWords) → IsRun
         (codes "hyperball" ∷ codes "run" ∷ codes "--entries" ∷ codes "64" ∷ codes "--patience=10"
         ∷ codes "--restart" ∷ codes "0.0@2" ∷ codes "--threads" ∷ codes "2" ∷ codes "--large" ∷ [])
-        board_words }
+        (board_words w) }
 {}
 
 /// These words ask for help, or are mistaken.
@@ -191,13 +193,13 @@ pub fn words_of_progress()
         false }
     ensures refused { (words : List Text) (kinds : List Kind) → HasFaults words kinds →
         kinds ≢ [] → AsksProgress words false }
-    ensures one { (words : List Text) (w : Run) → IsRun words w →
+    ensures one { (words : List Text) (w : RunWords) → IsRun words w →
         AsksProgress words true → AsksProgress words false → ⊥ }
-    ensures one_replay { (words : List Text) (w : Replayed) → IsReplay words w →
+    ensures one_replay { (words : List Text) (w : ReplayWords) → IsReplay words w →
         AsksProgress words true → AsksProgress words false → ⊥ }
-    ensures one_node { (words : List Text) (w : Noded) → IsNode words w →
+    ensures one_node { (words : List Text) (w : NodeWords) → IsNode words w →
         AsksProgress words true → AsksProgress words false → ⊥ }
-    ensures one_gather { (words : List Text) (w : Gathered) → IsGather words w →
+    ensures one_gather { (words : List Text) (w : GatherWords) → IsGather words w →
         AsksProgress words true → AsksProgress words false → ⊥ }
 {}
 
@@ -208,21 +210,21 @@ pub fn lines_of_progress()
 
 /// Words of a command are those of no other, and words that are read as those of a command ask for it.
 pub fn words_of_one_command()
-    ensures run { (words : List Text) (w : Run) → IsRun words w → AsksReplay words → ⊥ }
-    ensures run_node { (words : List Text) (w : Run) → IsRun words w → AsksNode words → ⊥ }
-    ensures run_gather { (words : List Text) (w : Run) → IsRun words w → AsksGather words → ⊥ }
-    ensures replay { (words : List Text) (w : Replayed) → IsReplay words w → AsksReplay words }
-    ensures replay_node { (words : List Text) (w : Replayed) → IsReplay words w →
+    ensures run { (words : List Text) (w : RunWords) → IsRun words w → AsksReplay words → ⊥ }
+    ensures run_node { (words : List Text) (w : RunWords) → IsRun words w → AsksNode words → ⊥ }
+    ensures run_gather { (words : List Text) (w : RunWords) → IsRun words w → AsksGather words → ⊥ }
+    ensures replay { (words : List Text) (w : ReplayWords) → IsReplay words w → AsksReplay words }
+    ensures replay_node { (words : List Text) (w : ReplayWords) → IsReplay words w →
         AsksNode words → ⊥ }
-    ensures replay_gather { (words : List Text) (w : Replayed) → IsReplay words w →
+    ensures replay_gather { (words : List Text) (w : ReplayWords) → IsReplay words w →
         AsksGather words → ⊥ }
-    ensures node { (words : List Text) (w : Noded) → IsNode words w → AsksNode words }
-    ensures node_replay { (words : List Text) (w : Noded) → IsNode words w → AsksReplay words → ⊥ }
-    ensures node_gather { (words : List Text) (w : Noded) → IsNode words w → AsksGather words → ⊥ }
-    ensures gather { (words : List Text) (w : Gathered) → IsGather words w → AsksGather words }
-    ensures gather_replay { (words : List Text) (w : Gathered) → IsGather words w →
+    ensures node { (words : List Text) (w : NodeWords) → IsNode words w → AsksNode words }
+    ensures node_replay { (words : List Text) (w : NodeWords) → IsNode words w → AsksReplay words → ⊥ }
+    ensures node_gather { (words : List Text) (w : NodeWords) → IsNode words w → AsksGather words → ⊥ }
+    ensures gather { (words : List Text) (w : GatherWords) → IsGather words w → AsksGather words }
+    ensures gather_replay { (words : List Text) (w : GatherWords) → IsGather words w →
         AsksReplay words → ⊥ }
-    ensures gather_node { (words : List Text) (w : Gathered) → IsGather words w →
+    ensures gather_node { (words : List Text) (w : GatherWords) → IsGather words w →
         AsksNode words → ⊥ }
 {}
 

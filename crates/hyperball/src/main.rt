@@ -4,10 +4,10 @@
 //! plays a script over one; `hyperball node` is one partition's node that answers commands, and `hyperball gather` writes
 //! the report of the checkpoints of all partitions. Each has a file in [`cli`], with its words and what it does. This
 //! file hands the real streams to [`serve::serve`], which goes from words and bytes to bytes and a status.
-//! [`cli::read_words`] gives what the words ask for, a [`cli::Wish`]: of a run the [`options::Options`] and the lists of
-//! orders ([`cli::orders`]). With `--counted` a run reads its input whole ([`whole::read_whole`]) and cuts it in two
-//! ([`whole::sections`]). The run itself is [`workers::run_watched`]. How a command gets on is told in lines of progress
-//! ([`told::Told`]), where that is asked for ([`progress`]).
+//! [`cli::read_words`] gives what the words ask for, a [`cli::Wish`]: of a run what is asked of it, with the lists of orders
+//! ([`cli::orders`]). With `--counted` a run reads its input whole ([`whole::read_whole`]) and cuts it into its parts
+//! ([`whole::parts_of`]), and so does a replay. The run itself is [`workers::run_watched`]. How a command gets on is told in
+//! lines of progress ([`lines::News`]), where that is asked for ([`progress`]).
 //!
 //! ```text
 //! $ printf 'a\tb\nb\tc\n' | hyperball run --log2m 4
@@ -25,12 +25,11 @@
 
 pub mod cli;
 pub mod laws;
-pub mod options;
+pub mod lines;
 pub mod progress;
 pub mod serve;
 #[cfg(test)]
 mod tests;
-pub mod told;
 pub mod whole;
 
 use ball_model::{CountingReader, CountingWriter};

@@ -1,6 +1,6 @@
 //! What is told of how a command gets on, where that is asked for.
 //!
-//! [`LendTeller`] hands out a [`Teller`], which tells lines of progress ([`Told`]) and nothing else, and takes it back.
+//! [`LendTeller`] hands out a [`Teller`], which tells lines of progress ([`News`]) and nothing else, and takes it back.
 //! What is refused whatever the graph is told before the edge list is read ([`foretold`]).
 //! Of a run [`RunProgress`] says what is told, and its [`TellingGate`] says when; a replay, a node and a gathering have
 //! a [`TellingWatch`].
@@ -8,7 +8,7 @@
 ghost use Rattle.std.specs.Prelude.{◌≡◌, IfSome, List, None, Option, ℕ};
 ghost use Rattle.hyperball.specs.Progress.{Foretells, IsRefusedForVertices, TellsProgress};
 
-use crate::told::Told;
+use crate::lines::News;
 use ball_model::plan::GREATEST_LIMIT;
 use ball_model::{NodeId, Plan, PlanError};
 use edgelist::{JobOptions, Watch};
@@ -21,12 +21,12 @@ use workers::{Gate, RunOptions, SleepingGate};
 /// What tells lines of progress.
 pub trait Teller {
     /// Tells a line, which is dropped where it cannot be written.
-    fn tell(&self, told: Told);
+    fn tell(&self, news: News);
 }
 
 impl Teller for Stderr {
-    fn tell(&self, told: Told) {
-        let _ = self.eprintln(told);
+    fn tell(&self, news: News) {
+        let _ = self.eprintln(news);
     }
 }
 
@@ -65,14 +65,14 @@ impl LendTeller for Stderr {
 
 /// What is told of these numbers where no plan has them, whatever the graph: the first of them in the order of the checks.
 /// (A plan of no vertices has the same fault.)
-pub fn foretold(log2m: u8, parts: u16, limit: u32) -> Option<Told>
+pub fn foretold(log2m: u8, parts: u16, limit: u32) -> Option<News>
     ensures some { IfSome result (Foretells log2m parts limit) }
     ensures none { result ≡ None → IsRefusedForVertices log2m parts limit }
 {
     match Plan::new(log2m, 0, parts, limit, 0, [0; 32]) {
-        Err(PlanError::Log2m) => Some(Told::NoLog2m { log2m }),
-        Err(PlanError::Parts) => Some(Told::NoParts { parts }),
-        Err(PlanError::Limit) => Some(Told::NoLimit { limit }),
+        Err(PlanError::Log2m) => Some(News::NoLog2m { log2m }),
+        Err(PlanError::Parts) => Some(News::NoParts { parts }),
+        Err(PlanError::Limit) => Some(News::NoLimit { limit }),
         Err(PlanError::Vertices) | Ok(_) => None,
     }
 }
@@ -127,27 +127,27 @@ impl<'a, T: Teller> RunProgress<'a, T> {
     // The edge list is to be read, where the other options are in their limits.
     fn note_begin(&self, options: &RunOptions) {
         if options.are_in_limits()
-            && let Some(told) = foretold(options.log2m, options.parts, options.limit)
+            && let Some(news) = foretold(options.log2m, options.parts, options.limit)
         {
-            self.teller.tell(told);
+            self.teller.tell(news);
         }
     }
 
     // So many records are read so far.
     fn tell_reading(&self, records: u64) {
-        self.teller.tell(Told::Reading { records });
+        self.teller.tell(News::Reading { records });
     }
 
     // The edge list is read.
     fn note_edge_list(&self, records: u64, vertices: u32) {
         self.vertices.store(vertices, Ordering::SeqCst);
-        self.teller.tell(Told::Read { records, vertices });
+        self.teller.tell(News::Read { records, vertices });
     }
 
     // A node stands at superstep 0. The first one tells it.
     fn note_start(&self) {
         if self.started.fetch_add(1, Ordering::SeqCst) == 0 {
-            self.teller.tell(Told::Start);
+            self.teller.tell(News::Start);
         }
     }
 
@@ -172,7 +172,7 @@ impl<'a, T: Teller> RunProgress<'a, T> {
     // All partitions have come to a superstep.
     fn tell_superstep(&self, superstep: u32, changed: u64) {
         let vertices = self.vertices.load(Ordering::SeqCst);
-        self.teller.tell(Told::Superstep {
+        self.teller.tell(News::Superstep {
             superstep,
             changed,
             vertices,
@@ -181,7 +181,7 @@ impl<'a, T: Teller> RunProgress<'a, T> {
 
     // The report is written.
     fn tell_report(&self) {
-        self.teller.tell(Told::Report);
+        self.teller.tell(News::Report);
     }
 }
 
@@ -343,43 +343,41 @@ impl<'a, T: Teller> TellingWatch<'a, T> {
 
     /// The edge list of a job is to be read.
     pub fn before_read(&self, options: &JobOptions) {
-        if let Some(told) = foretold(options.log2m, options.parts, options.limit) {
-            self.tell(told);
+        if let Some(news) = foretold(options.log2m, options.parts, options.limit) {
+            self.tell(news);
         }
     }
 
-    /// The replay has ended, and written its answers or not.
-    pub fn after_replay(&self, written: bool) {
-        if written {
-            self.tell(Told::Answers);
-        }
+    /// The replay has written its answers.
+    pub fn after_replay(&self) {
+        self.tell(News::Answers);
     }
 
     /// The node has answered all commands.
     pub fn after_commands(&self) {
-        self.tell(Told::Commands);
+        self.tell(News::Commands);
     }
 
     /// The gathering has written its report.
     pub fn after_gathering(&self) {
-        self.tell(Told::Report);
+        self.tell(News::Report);
     }
 
     // Tells a line where there is a teller.
-    fn tell(&self, told: Told) {
+    fn tell(&self, news: News) {
         if let Some(teller) = self.teller {
-            teller.tell(told);
+            teller.tell(news);
         }
     }
 }
 
 impl<'a, T: Teller> Watch for TellingWatch<'a, T> {
     fn after_read(&self, records: u64, vertices: u32) {
-        self.tell(Told::Read { records, vertices });
+        self.tell(News::Read { records, vertices });
     }
 
     fn after_close(&self, node: NodeId, superstep: u32, changed: u32, vertices: u32) {
-        self.tell(Told::Close {
+        self.tell(News::Close {
             node,
             superstep,
             changed,

@@ -1,48 +1,38 @@
 //! From words and bytes to bytes and a status.
 
-ghost use Rattle.std.specs.Prelude.{◌≡◌, ◌≢◌, ◌≤◌, ◌⊎◌, ◌∷◌, [], List, false, true};
-ghost use Rattle.std.specs.Prelude.{IfSome, None, Option, ℕ};
+ghost use Rattle.std.specs.Prelude.{◌≡◌, ◌≢◌, ◌≤◌, ◌⊎◌, ◌∷◌, [], List, false, IfSome, None, OnErr};
+ghost use Rattle.std.specs.Prelude.{OnOk, Option, ℕ};
 ghost use Rattle.std.specs.Io.KnownBytes.{Appends, Keeps};
 ghost use Rattle.clap.specs.Words.{kind_of};
 ghost use Rattle.clap.specs.declared.error.kind.ErrorKind.TheVariants as kind;
-ghost use Rattle.clap.specs.declared.error.kind.ErrorKind.{ErrorKind as Kind};
-ghost use Rattle.hyperball.specs.Streams.{AppendsSome, KeptOrFailed};
-ghost use Rattle.hyperball.specs.Whole.{ReadsFew};
+ghost use Rattle.hyperball.specs.Ends.{Does, Ends, EndsMistaken, EndsRefused, FailsWish};
+ghost use Rattle.hyperball.specs.Ends.{LeavesFault};
 ghost use Rattle.hyperball.specs.Progress.{Awaits, TellsAsAsked, TellsProgress};
-ghost use Rattle.hyperball.specs.Faults.{BeginsNothing, FailsGathering, FailsNode, FailsReplaying};
-ghost use Rattle.hyperball.specs.Faults.{FailsRun, FailsRunOf};
-ghost use Rattle.hyperball.specs.Replaying.{BeginsSome, BeginsToServe, IsReplay, SaysRun};
-ghost use Rattle.hyperball.specs.Replaying.{ServesReplay};
-ghost use Rattle.hyperball.specs.declared.cli.replay.ReplayWords.{ReplayWords as Replayed};
-ghost use Rattle.hyperball.specs.Words.{AreMistakes, AsksProgress, FailsFor, HasFaults, HasNoLists};
-ghost use Rattle.hyperball.specs.Words.{HasOrders, IsMistake, IsRun, SaysProgress, Serves};
-ghost use Rattle.hyperball.specs.Words.{texts_of};
-ghost use Rattle.hyperball.specs.Nodes.{AsksGather, AsksNode, IsGather, IsNode};
-ghost use Rattle.hyperball.specs.declared.cli.gather.GatherWords.{GatherWords as Gathered};
-ghost use Rattle.hyperball.specs.declared.cli.one_node.NodeWords.{NodeWords as Noded};
-ghost use Rattle.node.specs.Gathering.{GathersJob};
-ghost use Rattle.edgelist.specs.Job.{settings_of};
-ghost use Rattle.node.specs.NoReport.{GathersFrontOfJob, WritesFrontOfJob};
-ghost use Rattle.node.specs.Serving.{ServesNode};
-ghost use Rattle.hyperball.specs.declared.cli.run.RunWords.{RunWords as Run};
-ghost use Rattle.hyperball.specs.declared.cli.run.Said.{Said as Asking};
+ghost use Rattle.hyperball.specs.Streams.{AppendsSome, KeptOrFailed, reads_of, writes_of};
+ghost use Rattle.hyperball.specs.Whole.{ReadsFew};
+ghost use Rattle.hyperball.specs.Wishes.{IsWish, ReadsAll, tells_progress};
+ghost use Rattle.hyperball.specs.Words.{AreMistakes, AsksProgress, FailsFor, HasFaults};
+ghost use Rattle.hyperball.specs.Words.{IsMistake, texts_of};
 
-use crate::cli::gather::{GatherWords, gather_by};
-use crate::cli::one_node::{NodeWords, node_by};
+use crate::cli::gather::gather_by;
+use crate::cli::one_node::node_by;
 use crate::cli::orders::OrdersError;
-use crate::cli::replay::{ReplayWords, replay_by};
-use crate::cli::run::{Said, run_told};
-use crate::cli::{Wish, WordsError, read_words};
-use crate::progress::LendTeller;
+use crate::cli::replay::{ReplayFault, replay_by};
+use crate::cli::run::{RunFault, run_by};
+use crate::cli::{Server, Wish, WordsError, read_words};
+use crate::progress::{LendTeller, Teller};
 use ball_model::{CountedRead, CountedWrite, put_all};
 use clap::error::ErrorKind;
+use node::error::{GatherError, ServeNodeError};
 use std::alloc::{AllocGlobal, Global};
 use std::fmt::Display;
+use std::hash::RandomState;
 use std::io::Write;
 use std::random::RandomSource;
 use std::sync::Wait;
 use std::thread::Threads;
 use std::time::Clock;
+use thiserror::Error;
 
 /// The status of a run that wrote its report, or of help that was asked for.
 const DONE: u8 = 0;
@@ -73,7 +63,7 @@ fn tell_help<D: Display, W: CountedWrite, F: Write>(
         IfSome (D.output help.now) (Appends (W.contents writer.old) (W.contents writer.new)) }
     ensures some { result ≡ 0 → AppendsSome (W.contents writer.old) (W.contents writer.new) }
     ensures kept { result ≡ 1 →
-        KeptOrFailed W.contents W.failed_calls writer.old writer.new }
+        KeptOrFailed (writes_of W.contents W.failed_calls writer.old writer.new) }
     ensures silent { result ≡ 0 → Keeps (F.contents faults.old) (F.contents faults.new) }
 {
     let Ok(text) = format!(in alloc; "{help}") else {
@@ -103,7 +93,7 @@ fn tell_clap<W: CountedWrite, F: Write>(
     ensures some { result ≡ 0 → AppendsSome (W.contents writer.old) (W.contents writer.new) }
     ensures mistake { IsMistake (kind_of error.now) → result ≡ 2 }
     ensures kept { result ≡ 1 →
-        KeptOrFailed W.contents W.failed_calls writer.old writer.new }
+        KeptOrFailed (writes_of W.contents W.failed_calls writer.old writer.new) }
     ensures mistaken { result ≡ 2 → Keeps (W.contents writer.old) (W.contents writer.new) }
     ensures silent { result ≡ 0 → Keeps (F.contents faults.old) (F.contents faults.new) }
 {
@@ -145,7 +135,7 @@ fn tell_words<W: CountedWrite, F: Write>(
     faults: &mut F,
 ) -> u8
     ensures status { result ≤ 2 }
-    ensures mistake { (kinds : List Kind) → FailsFor kinds error.now → AreMistakes kinds →
+    ensures mistake { (kinds : List ErrorKind) → FailsFor kinds error.now → AreMistakes kinds →
         (result ≡ 2) ⊎ (result ≡ 1) }
     ensures help { FailsFor (kind.DisplayHelp ∷ []) error.now → (result ≡ 0) ⊎ (result ≡ 1) }
     ensures version { FailsFor (kind.DisplayVersion ∷ []) error.now →
@@ -155,7 +145,7 @@ fn tell_words<W: CountedWrite, F: Write>(
     ensures two { result ≡ 2 → FailsFor [] error.now →
         error.now ≡ WordsError.Orders OrdersError.Form }
     ensures kept { result ≡ 1 →
-        KeptOrFailed W.contents W.failed_calls writer.old writer.new }
+        KeptOrFailed (writes_of W.contents W.failed_calls writer.old writer.new) }
     ensures mistaken { result ≡ 2 → Keeps (W.contents writer.old) (W.contents writer.new) }
     ensures silent { result ≡ 0 → Keeps (F.contents faults.old) (F.contents faults.new) }
 {
@@ -185,126 +175,74 @@ fn end_telling<F: LendTeller>(teller: Option<F::Teller>, faults: &mut F)
     }
 }
 
-// The status of a run, whose fault is told.
-fn run_status<
+// Why a command is not done.
+#[derive(Clone, Copy, Debug, Error)]
+enum Fault {
+    // There are no random words to hash labels by.
+    #[error("the system gives no random words")]
+    Random,
+    #[error(transparent)]
+    Run(RunFault),
+    #[error(transparent)]
+    Replay(ReplayFault),
+    #[error(transparent)]
+    Node(ServeNodeError),
+    #[error(transparent)]
+    Gather(GatherError),
+}
+
+// Does what words ask for. Without random words nothing is read or written.
+fn fulfil<
     H: AllocGlobal + Clock + RandomSource + Threads + Wait + Sync,
+    T: Teller + Sync,
     R: CountedRead,
     W: CountedWrite,
-    F: LendTeller,
->(rt: &H, said: Said, reader: &mut R, writer: &mut W, faults: &mut F) -> u8
-    ensures status { (result ≡ 0) ⊎ (result ≡ 1) }
-    ensures done { result ≡ 0 →
-        Serves said.words (R.remaining reader.old) W.contents writer.old writer.new }
-    ensures few { said.words.counted ≡ true →
-        ReadsFew (R.remaining reader.old) (R.remaining reader.new) }
-    ensures fault { result ≡ 1 → FailsRun said R.remaining R.failed_calls R.sure_calls
-        reader.old reader.new }
-    ensures kept { result ≡ 1 →
-        KeptOrFailed W.contents W.failed_calls writer.old writer.new }
-    ensures told { result ≡ 0 → TellsAsAsked (said.progress ≡ false)
-        (F.contents faults.old) (F.contents faults.new) }
+>(server: &Server<'_, H, T>, wish: Wish, reader: &mut R, writer: &mut W) -> Result<(), Fault>
+    ensures done { OnOk result (Does wish
+        (reads_of R.remaining R.failed_calls R.sure_calls reader.old reader.new)
+        (writes_of W.contents W.failed_calls writer.old writer.new)) }
+    ensures fault { OnErr result (FailsWish wish
+        (reads_of R.remaining R.failed_calls R.sure_calls reader.old reader.new)
+        (writes_of W.contents W.failed_calls writer.old writer.new)) }
+    ensures few { ReadsAll wish → ReadsFew (R.remaining reader.old) (R.remaining reader.new) }
 {
-    let teller = teller_for(said.progress, faults);
-    let answer = run_told(rt, said, &teller, reader, writer);
-    end_telling(teller, faults);
-    match answer {
-        Ok(()) => DONE,
-        Err(fault) => tell_fault(faults, fault),
+    match wish {
+        // (A run first makes its gate, and then looks for random words itself.)
+        Wish::Run(words) => match run_by(server, words, reader, writer) {
+            Ok(()) => Ok(()),
+            Err(fault) => Err(Fault::Run(fault)),
+        },
+        Wish::Replay(words) => {
+            let Ok(state) = RandomState::new(server.rt) else {
+                return Err(Fault::Random);
+            };
+            match replay_by(server, state, &words, reader, writer) {
+                Ok(()) => Ok(()),
+                Err(fault) => Err(Fault::Replay(fault)),
+            }
+        }
+        Wish::Node(words) => {
+            let Ok(state) = RandomState::new(server.rt) else {
+                return Err(Fault::Random);
+            };
+            match node_by(server, state, &words, reader, writer) {
+                Ok(()) => Ok(()),
+                Err(fault) => Err(Fault::Node(fault)),
+            }
+        }
+        Wish::Gather(words) => {
+            let Ok(state) = RandomState::new(server.rt) else {
+                return Err(Fault::Random);
+            };
+            match gather_by(server, state, &words, reader, writer) {
+                Ok(()) => Ok(()),
+                Err(fault) => Err(Fault::Gather(fault)),
+            }
+        }
     }
 }
 
-// The status of a replay, whose fault is told.
-fn replay_status<H: AllocGlobal + RandomSource, R: CountedRead, W: CountedWrite, F: LendTeller>(
-    rt: &H,
-    words: &ReplayWords,
-    reader: &mut R,
-    writer: &mut W,
-    faults: &mut F,
-) -> u8
-    ensures status { (result ≡ 0) ⊎ (result ≡ 1) }
-    ensures done { result ≡ 0 →
-        ServesReplay words.now (R.remaining reader.old) W.contents writer.old writer.new }
-    ensures few { ReadsFew (R.remaining reader.old) (R.remaining reader.new) }
-    ensures fault { result ≡ 1 → FailsReplaying words.now R.remaining R.failed_calls R.sure_calls
-        W.contents W.failed_calls reader.old reader.new writer.old writer.new }
-    ensures begun { result ≡ 1 → BeginsToServe words.now (R.remaining reader.old)
-        W.contents W.failed_calls writer.old writer.new }
-    ensures told { result ≡ 0 → TellsAsAsked (words.now.progress ≡ false)
-        (F.contents faults.old) (F.contents faults.new) }
-{
-    let teller = teller_for(words.progress, faults);
-    let answer = replay_by(rt, words, &teller, reader, writer);
-    end_telling(teller, faults);
-    match answer {
-        Ok(()) => DONE,
-        Err(fault) => tell_fault(faults, fault),
-    }
-}
-
-// The status of a node, whose fault is told.
-fn node_status<H: AllocGlobal + RandomSource, R: CountedRead, W: CountedWrite, F: LendTeller>(
-    rt: &H,
-    words: &NodeWords,
-    reader: &mut R,
-    writer: &mut W,
-    faults: &mut F,
-) -> u8
-    ensures status { (result ≡ 0) ⊎ (result ≡ 1) }
-    ensures done { result ≡ 0 → ServesNode
-        (settings_of words.now.job.options) words.now.job.counted words.now.part
-        (R.remaining reader.old) (R.remaining reader.new)
-        (W.contents writer.old) (W.contents writer.new) }
-    // It is done only where no call failed.
-    ensures read { result ≡ 0 → R.failed_calls reader.new ≡ R.failed_calls reader.old }
-    ensures written { result ≡ 0 → W.failed_calls writer.new ≡ W.failed_calls writer.old }
-    ensures fault { result ≡ 1 → FailsNode words.now R.remaining R.failed_calls
-        W.contents W.failed_calls reader.old reader.new writer.old writer.new }
-    ensures told { result ≡ 0 → TellsAsAsked (words.now.progress ≡ false)
-        (F.contents faults.old) (F.contents faults.new) }
-{
-    let teller = teller_for(words.progress, faults);
-    let answer = node_by(rt, words, &teller, reader, writer);
-    end_telling(teller, faults);
-    match answer {
-        Ok(()) => DONE,
-        Err(fault) => tell_fault(faults, fault),
-    }
-}
-
-// The status of a gathering, whose fault is told.
-fn gather_status<
-    H: AllocGlobal + RandomSource + Threads + Sync,
-    R: CountedRead,
-    W: CountedWrite,
-    F: LendTeller,
->(rt: &H, words: &GatherWords, reader: &mut R, writer: &mut W, faults: &mut F) -> u8
-    ensures status { (result ≡ 0) ⊎ (result ≡ 1) }
-    ensures done { result ≡ 0 → GathersJob
-        (settings_of words.now.job.options) words.now.job.counted
-        (R.remaining reader.old) (R.remaining reader.new)
-        (W.contents writer.old) (W.contents writer.new) }
-    // It is done only where no call failed.
-    ensures read { result ≡ 0 → R.failed_calls reader.new ≡ R.failed_calls reader.old }
-    ensures written { result ≡ 0 → W.failed_calls writer.new ≡ W.failed_calls writer.old }
-    ensures fault { result ≡ 1 → FailsGathering words.now R.remaining R.failed_calls
-        W.contents W.failed_calls reader.old reader.new writer.old writer.new }
-    ensures begun { result ≡ 1 → WritesFrontOfJob
-        (settings_of words.now.job.options) words.now.job.counted
-        (R.remaining reader.old) (R.remaining reader.new)
-        (W.contents writer.old) (W.contents writer.new) }
-    ensures told { result ≡ 0 → TellsAsAsked (words.now.progress ≡ false)
-        (F.contents faults.old) (F.contents faults.new) }
-{
-    let teller = teller_for(words.progress, faults);
-    let answer = gather_by(rt, words, &teller, reader, writer);
-    end_telling(teller, faults);
-    match answer {
-        Ok(()) => DONE,
-        Err(fault) => tell_fault(faults, fault),
-    }
-}
-
-// Does what words ask for, and gives the exit status.
+// Does what words ask for, tells why where it is not done, and gives the exit status.
 fn serve_wish<
     H: AllocGlobal + Clock + RandomSource + Threads + Wait + Sync,
     R: CountedRead,
@@ -312,58 +250,26 @@ fn serve_wish<
     F: LendTeller,
 >(rt: &H, wish: Wish, reader: &mut R, writer: &mut W, faults: &mut F) -> u8
     ensures status { (result ≡ 0) ⊎ (result ≡ 1) }
-    ensures run { (w : Run) → SaysRun w wish → result ≡ 0 →
-        Serves w (R.remaining reader.old) W.contents writer.old writer.new }
-    ensures few { (w : Run) → SaysRun w wish → w.counted ≡ true →
-        ReadsFew (R.remaining reader.old) (R.remaining reader.new) }
-    ensures kept { (said : Asking) → wish ≡ Wish.Run said → result ≡ 1 →
-        KeptOrFailed W.contents W.failed_calls writer.old writer.new }
-    ensures replay { (w : Replayed) → wish ≡ Wish.Replay w → result ≡ 0 →
-        ServesReplay w (R.remaining reader.old) W.contents writer.old writer.new }
-    ensures replay_few { (w : Replayed) → wish ≡ Wish.Replay w →
-        ReadsFew (R.remaining reader.old) (R.remaining reader.new) }
-    ensures begun { (w : Replayed) → wish ≡ Wish.Replay w → result ≡ 1 →
-        BeginsToServe w (R.remaining reader.old)
-        W.contents W.failed_calls writer.old writer.new }
-    ensures node { (w : Noded) → wish ≡ Wish.Node w → result ≡ 0 → ServesNode
-        (settings_of w.job.options) w.job.counted w.part
-        (R.remaining reader.old) (R.remaining reader.new)
-        (W.contents writer.old) (W.contents writer.new) }
-    ensures node_read { (w : Noded) → wish ≡ Wish.Node w → result ≡ 0 →
-        R.failed_calls reader.new ≡ R.failed_calls reader.old }
-    ensures node_written { (w : Noded) → wish ≡ Wish.Node w → result ≡ 0 →
-        W.failed_calls writer.new ≡ W.failed_calls writer.old }
-    ensures gather { (w : Gathered) → wish ≡ Wish.Gather w → result ≡ 0 → GathersJob
-        (settings_of w.job.options) w.job.counted
-        (R.remaining reader.old) (R.remaining reader.new)
-        (W.contents writer.old) (W.contents writer.new) }
-    ensures gather_read { (w : Gathered) → wish ≡ Wish.Gather w → result ≡ 0 →
-        R.failed_calls reader.new ≡ R.failed_calls reader.old }
-    ensures gather_written { (w : Gathered) → wish ≡ Wish.Gather w → result ≡ 0 →
-        W.failed_calls writer.new ≡ W.failed_calls writer.old }
-    ensures gather_begun { (w : Gathered) → wish ≡ Wish.Gather w → result ≡ 1 → WritesFrontOfJob
-        (settings_of w.job.options) w.job.counted
-        (R.remaining reader.old) (R.remaining reader.new)
-        (W.contents writer.old) (W.contents writer.new) }
-    ensures run_fault { (said : Asking) → wish ≡ Wish.Run said → result ≡ 1 →
-        FailsRun said R.remaining R.failed_calls R.sure_calls reader.old reader.new }
-    ensures replay_fault { (w : Replayed) → wish ≡ Wish.Replay w → result ≡ 1 →
-        FailsReplaying w R.remaining R.failed_calls R.sure_calls W.contents W.failed_calls
-        reader.old reader.new writer.old writer.new }
-    ensures node_fault { (w : Noded) → wish ≡ Wish.Node w → result ≡ 1 →
-        FailsNode w R.remaining R.failed_calls W.contents W.failed_calls
-        reader.old reader.new writer.old writer.new }
-    ensures gather_fault { (w : Gathered) → wish ≡ Wish.Gather w → result ≡ 1 →
-        FailsGathering w R.remaining R.failed_calls W.contents W.failed_calls
-        reader.old reader.new writer.old writer.new }
-    ensures told { result ≡ 0 → TellsAsAsked (SaysProgress false wish)
+    ensures done { result ≡ 0 → Does wish
+        (reads_of R.remaining R.failed_calls R.sure_calls reader.old reader.new)
+        (writes_of W.contents W.failed_calls writer.old writer.new) }
+    ensures fault { result ≡ 1 → FailsWish wish
+        (reads_of R.remaining R.failed_calls R.sure_calls reader.old reader.new)
+        (writes_of W.contents W.failed_calls writer.old writer.new) }
+    ensures few { ReadsAll wish → ReadsFew (R.remaining reader.old) (R.remaining reader.new) }
+    ensures told { result ≡ 0 → TellsAsAsked (tells_progress wish ≡ false)
         (F.contents faults.old) (F.contents faults.new) }
 {
-    match wish {
-        Wish::Run(said) => run_status(rt, said, reader, writer, faults),
-        Wish::Replay(words) => replay_status(rt, &words, reader, writer, faults),
-        Wish::Node(words) => node_status(rt, &words, reader, writer, faults),
-        Wish::Gather(words) => gather_status(rt, &words, reader, writer, faults),
+    let teller = teller_for(wish.tells_progress(), faults);
+    let server = Server {
+        rt,
+        teller: &teller,
+    };
+    let answer = fulfil(&server, wish, reader, writer);
+    end_telling(teller, faults);
+    match answer {
+        Ok(()) => DONE,
+        Err(fault) => tell_fault(faults, fault),
     }
 }
 
@@ -384,83 +290,22 @@ pub fn serve<
     W: CountedWrite,
     F: LendTeller,
 >(rt: &H, words: &[String], reader: &mut R, writer: &mut W, faults: &mut F) -> u8
-    ensures run { (w : Run) → IsRun (texts_of words.now) w → result ≡ 0 →
-        Serves w (R.remaining reader.old) W.contents writer.old writer.new }
-    ensures replay { (w : Replayed) → IsReplay (texts_of words.now) w → result ≡ 0 →
-        ServesReplay w (R.remaining reader.old) W.contents writer.old writer.new }
-    ensures node { (w : Noded) → IsNode (texts_of words.now) w → result ≡ 0 → ServesNode
-        (settings_of w.job.options) w.job.counted w.part
-        (R.remaining reader.old) (R.remaining reader.new)
-        (W.contents writer.old) (W.contents writer.new) }
-    ensures gather { (w : Gathered) → IsGather (texts_of words.now) w → result ≡ 0 → GathersJob
-        (settings_of w.job.options) w.job.counted
-        (R.remaining reader.old) (R.remaining reader.new)
-        (W.contents writer.old) (W.contents writer.new) }
-    // A node and a gathering are done only where no call failed.
-    ensures node_read { (w : Noded) → IsNode (texts_of words.now) w → result ≡ 0 →
-        R.failed_calls reader.new ≡ R.failed_calls reader.old }
-    ensures node_written { (w : Noded) → IsNode (texts_of words.now) w → result ≡ 0 →
-        W.failed_calls writer.new ≡ W.failed_calls writer.old }
-    ensures gather_read { (w : Gathered) → IsGather (texts_of words.now) w → result ≡ 0 →
-        R.failed_calls reader.new ≡ R.failed_calls reader.old }
-    ensures gather_written { (w : Gathered) → IsGather (texts_of words.now) w → result ≡ 0 →
-        W.failed_calls writer.new ≡ W.failed_calls writer.old }
-    ensures few { (w : Run) → IsRun (texts_of words.now) w → w.counted ≡ true →
-        ReadsFew (R.remaining reader.old) (R.remaining reader.new) }
-    ensures replay_few { (w : Replayed) → IsReplay (texts_of words.now) w →
-        ReadsFew (R.remaining reader.old) (R.remaining reader.new) }
-    ensures mistaken { (kinds : List Kind) → HasFaults (texts_of words.now) kinds →
-        AreMistakes kinds → (result ≡ 2) ⊎ (result ≡ 1) }
-    ensures help { HasFaults (texts_of words.now) (kind.DisplayHelp ∷ []) →
-        (result ≡ 0) ⊎ (result ≡ 1) }
-    ensures version { HasFaults (texts_of words.now) (kind.DisplayVersion ∷ []) →
-        (result ≡ 0) ⊎ (result ≡ 1) }
-    ensures some { (kinds : List Kind) → HasFaults (texts_of words.now) kinds → kinds ≢ [] →
-        result ≡ 0 → AppendsSome (W.contents writer.old) (W.contents writer.new) }
+    ensures asked { (x : Wish) → IsWish (texts_of words.now) x →
+        Ends (texts_of words.now) x result
+        (reads_of R.remaining R.failed_calls R.sure_calls reader.old reader.new)
+        (writes_of W.contents W.failed_calls writer.old writer.new) }
+    ensures refused { (kinds : List ErrorKind) → HasFaults (texts_of words.now) kinds →
+        EndsRefused kinds result
+        (writes_of W.contents W.failed_calls writer.old writer.new) }
     ensures status { result ≤ 2 }
-    ensures two { result ≡ 2 → HasFaults (texts_of words.now) [] → HasOrders (texts_of words.now) }
+    ensures one { result ≡ 1 → LeavesFault (texts_of words.now)
+        (reads_of R.remaining R.failed_calls R.sure_calls reader.old reader.new)
+        (writes_of W.contents W.failed_calls writer.old writer.new) }
     // Where clap accepts the words, status 2 comes only from a list of orders that is not of its form.
-    ensures misspelt { result ≡ 2 → HasFaults (texts_of words.now) [] →
-        HasNoLists (texts_of words.now) }
-    // Status 1 comes only from a fault, or where memory was refused before a command began.
-    ensures run_fault { (w : Run) → IsRun (texts_of words.now) w → result ≡ 1 →
-        BeginsNothing R.remaining W.contents W.failed_calls
-        reader.old reader.new writer.old writer.new
-        ⊎ FailsRunOf (texts_of words.now) w R.remaining R.failed_calls R.sure_calls
-        reader.old reader.new }
-    ensures replay_fault { (w : Replayed) → IsReplay (texts_of words.now) w → result ≡ 1 →
-        BeginsNothing R.remaining W.contents W.failed_calls
-        reader.old reader.new writer.old writer.new
-        ⊎ FailsReplaying w R.remaining R.failed_calls R.sure_calls W.contents W.failed_calls
-        reader.old reader.new writer.old writer.new }
-    ensures node_fault { (w : Noded) → IsNode (texts_of words.now) w → result ≡ 1 →
-        BeginsNothing R.remaining W.contents W.failed_calls
-        reader.old reader.new writer.old writer.new
-        ⊎ FailsNode w R.remaining R.failed_calls W.contents W.failed_calls
-        reader.old reader.new writer.old writer.new }
-    ensures gather_fault { (w : Gathered) → IsGather (texts_of words.now) w → result ≡ 1 →
-        BeginsNothing R.remaining W.contents W.failed_calls
-        reader.old reader.new writer.old writer.new
-        ⊎ FailsGathering w R.remaining R.failed_calls W.contents W.failed_calls
-        reader.old reader.new writer.old writer.new }
-    ensures two_kept { result ≡ 2 → Keeps (W.contents writer.old) (W.contents writer.new) }
-    ensures one_kept { result ≡ 1 →
-        KeptOrFailed W.contents W.failed_calls writer.old writer.new
-        ⊎ (BeginsSome (texts_of words.now) (R.remaining reader.old)
-        (W.contents writer.old) (W.contents writer.new)
-        ⊎ (AsksNode (texts_of words.now) ⊎ AsksGather (texts_of words.now))) }
-    ensures one_begun { (w : Replayed) → IsReplay (texts_of words.now) w → result ≡ 1 →
-        BeginsToServe w (R.remaining reader.old)
-        W.contents W.failed_calls writer.old writer.new }
-    ensures gather_begun { (w : Gathered) → IsGather (texts_of words.now) w → result ≡ 1 →
-        KeptOrFailed W.contents W.failed_calls writer.old writer.new ⊎ GathersFrontOfJob
-        (settings_of w.job.options) w.job.counted
-        (R.remaining reader.old) (R.remaining reader.new)
-        (W.contents writer.old) (W.contents writer.new) }
-    ensures silent { result ≡ 0 → AsksProgress (texts_of words.now) false →
-        Keeps (F.contents faults.old) (F.contents faults.new) }
-    ensures told { result ≡ 0 →
-        TellsProgress (F.contents faults.old) (F.contents faults.new) }
+    ensures two { result ≡ 2 → EndsMistaken (texts_of words.now)
+        (writes_of W.contents W.failed_calls writer.old writer.new) }
+    ensures told { result ≡ 0 → TellsAsAsked (AsksProgress (texts_of words.now) false)
+        (F.contents faults.old) (F.contents faults.new) }
 {
     match read_words(rt.alloc(), words) {
         Ok(wish) => serve_wish(rt, wish, reader, writer, faults),

@@ -1,10 +1,12 @@
-//! Inputs that are read whole, and cut into sections by a line of exactly `%%`.
+//! Inputs that are read whole, and cut into their parts: an edge list, and after a line of exactly `%%` each a list of counted
+//! vertices and a script, where they are wanted.
 
 ghost use Rattle.std.specs.Prelude.{◌≡◌, ◌≢◌, ◌<◌, ◌≤◌, ◌+◌, ◌++◌, if◌then◌else◌, [], length, Err};
-ghost use Rattle.std.specs.Prelude.{IfErr, IfOk, OnOk, None, option_map};
+ghost use Rattle.std.specs.Prelude.{IfErr, IfOk, None, Ok, OnOk, Some, option_map};
 ghost use Rattle.ball_model.specs.Streams.{Rises, RisesByOne, TakesAtMost};
 ghost use Rattle.ball_model.specs.Sections.{after_mark, sections_of};
-ghost use Rattle.hyperball.specs.Whole.{IsLong, IsWholeInput, ReadsFew};
+ghost use Rattle.ball_model.specs.RunText.{list_in};
+ghost use Rattle.hyperball.specs.Whole.{IsLong, IsWholeInput, ReadsFew, parts_in};
 
 use ball_model::{CountedRead, Filled, fill};
 use node::limits::MOST_BYTES;
@@ -14,6 +16,37 @@ use thiserror::Error;
 
 // How many bytes are read at once.
 const PIECE: usize = 65_536;
+
+/// A part that an input lacks: no line of exactly `%%` stands before it.
+#[derive(Clone, Copy, Debug, Error)]
+pub enum Lack {
+    /// The list of counted vertices.
+    #[error("no line %% before the list")]
+    List,
+    /// The script.
+    #[error("no line %% before the script")]
+    Script,
+}
+
+/// Which parts an input is to have after its edge list, in this order, with a line of exactly `%%` before each.
+#[derive(Clone, Copy)]
+pub struct Form {
+    /// Whether it has a list of counted vertices.
+    pub list: bool,
+    /// Whether it has a script.
+    pub script: bool,
+}
+
+/// The parts of an input.
+#[derive(Clone, Copy)]
+pub struct Parts<'a> {
+    /// The edge list.
+    pub edges: &'a [u8],
+    /// The list of counted vertices, where there is one.
+    pub list: Option<&'a [u8]>,
+    /// The script, where there is one.
+    pub script: Option<&'a [u8]>,
+}
 
 /// Why an input is not read whole, in the order of the checks.
 #[derive(Clone, Copy, Debug, Error)]
@@ -137,4 +170,58 @@ pub fn sections(input: &[u8]) -> Option<(&[u8], &[u8])>
         }
     }
     None
+}
+
+// The two sections of an input, or the part that it lacks.
+fn cut(input: &[u8], missing: Lack) -> Result<(&[u8], &[u8]), Lack>
+    ensures ok { IfOk result (λ s. sections_of input.now ≡ Some (s.0.now, s.1.now)) }
+    ensures lacks { IfErr result (λ e. (sections_of input.now ≡ None) × (e ≡ missing)) }
+{
+    match sections(input) {
+        Some(found) => Ok(found),
+        None => Err(missing),
+    }
+}
+
+/// The parts of an input of this form, or the first that it lacks.
+pub fn parts_of(input: &[u8], form: Form) -> Result<Parts<'_>, Lack>
+    ensures ok { IfOk result (λ p. parts_in form.list form.script input.now ≡ Ok (record {
+      edges = p.edges.now;
+      list = list_in p.list;
+      script = list_in p.script;
+    })) }
+    ensures lacks { IfErr result (λ e. parts_in form.list form.script input.now ≡ Err e) }
+{
+    match (form.list, form.script) {
+        (false, false) => Ok(Parts {
+            edges: input,
+            list: None,
+            script: None,
+        }),
+        (false, true) => {
+            let (edges, script) = cut(input, Lack::Script)?;
+            Ok(Parts {
+                edges,
+                list: None,
+                script: Some(script),
+            })
+        }
+        (true, false) => {
+            let (edges, list) = cut(input, Lack::List)?;
+            Ok(Parts {
+                edges,
+                list: Some(list),
+                script: None,
+            })
+        }
+        (true, true) => {
+            let (edges, rest) = cut(input, Lack::List)?;
+            let (list, script) = cut(rest, Lack::Script)?;
+            Ok(Parts {
+                edges,
+                list: Some(list),
+                script: Some(script),
+            })
+        }
+    }
 }

@@ -16,7 +16,7 @@ use Rattle.ball_model.specs.Job.{Job, IsJob, PartValue, part_of}
 use Rattle.ball_model.specs.PlanValue.{PlanValue}
 use Rattle.ball_model.specs.State.{State, StandsFor}
 use Rattle.report.specs.Ready.{AllStand, are_ready, job_report}
-use Rattle.node.specs.Gathering.{AreGivenBack, AreMadeOf, AreCheckpointsFrom, Gathers, IsMadeOf, ReadsAll, ReadsCheckpoint, part_line, part_text, parts_text, told_report}
+use Rattle.node.specs.Gathering.{AreGivenBack, AreMadeOf, AreCheckpointsFrom, Gathers, IsMadeOf, ReadsAll, ReadsCheckpoint, part_line, part_text, parts_text, report_fault}
 use Rattle.ball_model.specs.Streams.{PutsFront}
 use Rattle.ball_model.specs.Input.{Network}
 use Rattle.ball_model.specs.Job.{job_of}
@@ -26,7 +26,7 @@ use Rattle.checkpoint.specs.declared.error.KeepError.{KeepError}
 use Rattle.checkpoint.specs.declared.error.KeepError.TheVariants as unkept
 use Rattle.node.specs.declared.error.GatherError.{GatherError}
 use Rattle.node.specs.declared.error.GatherError.TheVariants as fault
-use Rattle.node.specs.NoReport.{AreUnready, EndsWithin, IsNoReplica, IsNoReport, LacksPartRoom, LacksReportRoom, ReadsNoCheckpoint, StopsAtPart, WritesFront, WritesFrontOfJob, told_kept}
+use Rattle.node.specs.NoReport.{AreUnready, EndsWithin, IsNoReplica, IsNoReport, LacksPartRoom, LacksReportRoom, ReadsNoCheckpoint, StopsAtPart, WritesFront, WritesFrontOfJob, checkpoint_fault}
 use Rattle.node.specs.Job.{IsJobRead}
 use Rattle.node.specs.Refusals.{IsNoCheckpoint}
 use Rattle.node.specs.Stream.{CutsBody, ReadsBody, ReadsInLine}
@@ -207,7 +207,7 @@ pub start_lacks : (j : Job) (a : Option (List ℕ)) → 0 < j.plan.parts → Lac
 start_lacks j a some = inl (record { p = 0; below = some; replicas = []; mid = a; before = reads_none j a; at = nothing_lacks (part_of j 0) a })
 
 -- all is ready
-pub ready_lacks : (j : Job) (a c : Option (List ℕ)) (vs : List State) (e : ReportError) → ReadsAll j j.plan.parts a c vs → IsAtEnd c → are_ready vs ≡ true → IsNoReport j a c (told_report e)
+pub ready_lacks : (j : Job) (a c : Option (List ℕ)) (vs : List State) (e : ReportError) → ReadsAll j j.plan.parts a c vs → IsAtEnd c → are_ready vs ≡ true → IsNoReport j a c (report_fault e)
 ready_lacks j a c vs unreported.Memory before end ready = inr (record { replicas = vs; before = before; end = end; ready = ready })
 ready_lacks j a c vs unreported.Write before end ready = tt
 
@@ -250,7 +250,7 @@ front_of_job s counted network plan a b c x y job (inl kept) = inl kept
 front_of_job s counted network plan a b c x y job (inr front) = inr (record { network = network; plan = plan; mid = b; job = job; gathers = front })
 
 -- ---- what is told of bytes that are no checkpoint
-pub told_other : (p : ℕ) (part : PartValue) (a b : Option (List ℕ)) (body : List ℕ) (e : KeepError) → length body ≤ most_checkpoint_bytes part part.plan.limit → p ≡ part.number → Consumes a b (part_text body) → (e ≢ unkept.Memory → IsNoCheckpoint part body e) → IsNoReplica part a b (told_kept p e)
+pub told_other : (p : ℕ) (part : PartValue) (a b : Option (List ℕ)) (body : List ℕ) (e : KeepError) → length body ≤ most_checkpoint_bytes part part.plan.limit → p ≡ part.number → Consumes a b (part_text body) → (e ≢ unkept.Memory → IsNoCheckpoint part body e) → IsNoReplica part a b (checkpoint_fault p e)
 told_other p part a b body unkept.Memory few same read named = text_lacks part a b body few read
 told_other p part a b body unkept.Write few same read named = other_part p part a b body unkept.Write same read (named (λ e. absurd (cc)))
 told_other p part a b body unkept.Read few same read named = other_part p part a b body unkept.Read same read (named (λ e. absurd (cc)))

@@ -15,15 +15,15 @@ use Rattle.ball_model.specs.PlanValue.{PlanValue}
 use Rattle.ball_model.specs.RunText.{Settings}
 use Rattle.ball_model.specs.State.{State}
 use Rattle.node.specs.Job.{IsJobRead}
-use Rattle.node.specs.NodeText.{AllAsk, AnswersOne, AnswersAll, Asked, Asks, IsRequest, Request, after_all_asked, after_asked, body_length, command_in, request_bytes, requests_text}
+use Rattle.node.specs.NodeText.{AllAsk, AnswersOne, AnswersAll, Question, Asks, IsRequest, Request, after_all_asked, after_asked, body_length, command_in, request_bytes, requests_text}
 use Rattle.node.specs.declared.command.Command.{Command}
 use Rattle.node.specs.declared.error.ServeError.{ServeError}
 use Rattle.node.specs.declared.error.ServeError.TheVariants as fault
 use Rattle.node.specs.declared.error.ServeNodeError.{ServeNodeError}
 use Rattle.node.specs.declared.error.ServeNodeError.TheVariants as node_fault
-use Rattle.node.specs.Stream.{CutsBody, HasNoEnd, ReadsBody, ReadsInLine}
+use Rattle.node.specs.Stream.{CutLine, CutsBody, HasNoEnd, LongLine, ReadsBody, ReadsInLine}
 use Rattle.node.specs.declared.input.TheConstants.{MOST_LINE}
-use Rattle.node.specs.Serving.{AnswersEach, AppendsAnswers, AreNamed, AreTold, CutShort, IfRefused, IsNoRequest, IsOfMachine, LacksRoom, NoCommand, ReadsRequest, Runs, ServesRest, ServesNode, ServesNone, ServesOne, ServesSome, Steps, StopsServing, StopsNode, StopsWanting, WantsNode, serve_error_of}
+use Rattle.node.specs.Serving.{AnswersEach, AppendsAnswers, AreNamed, AreTold, CutShort, IfRefused, IsNoRequest, IsOfMachine, LacksRoom, NoCommand, ReadsCommand, ReadsRequest, Runs, ServesRest, ServesNode, ServesNone, ServesOne, ServesSome, Steps, StopsServing, StopsNode, StopsWanting, WantsNode, serve_error_of}
 use Rattle.node.specs.Turns.{Holds, most_body}
 use Rattle.world.specs.declared.tell.TellError.{TellError}
 use Rattle.world.specs.declared.tell.TellError.TheVariants as untold
@@ -31,14 +31,14 @@ use Rattle.node.proofs.SessionLemmas.{part_held}
 use Rattle.node.proofs.StreamLemmas.{some_bytes}
 
 -- ---- one more is asked
-pub record LastAsk (j : Job) (p : ℕ) (rs : List Request) (r : Request) (more : List Asked) : Type 0 where
-  pub front : List Asked
-  pub last : Asked
+pub record LastAsk (j : Job) (p : ℕ) (rs : List Request) (r : Request) (more : List Question) : Type 0 where
+  pub front : List Question
+  pub last : Question
   pub is : more ≡ front ++ last ∷ []
   pub asks : AllAsk j p rs front
   pub asks_last : Asks j p r.command r.body last
 
-last_ask : (j : Job) (p : ℕ) (rs : List Request) (r : Request) (more : List Asked) → AllAsk j p (rs ++ r ∷ []) more → LastAsk j p rs r more
+last_ask : (j : Job) (p : ℕ) (rs : List Request) (r : Request) (more : List Question) → AllAsk j p (rs ++ r ∷ []) more → LastAsk j p rs r more
 unfolding AllAsk
 last_ask j p [] r [] asks = absurd asks
 last_ask j p [] r (a ∷ []) asks = record { front = []; last = a; is = refl; asks = tt; asks_last = asks.0 }
@@ -46,16 +46,16 @@ last_ask j p [] r (a ∷ b ∷ more) asks = absurd asks.1
 last_ask j p (q ∷ rs) r [] asks = absurd asks
 last_ask j p (q ∷ rs) r (a ∷ more) asks =
     let k = last_ask j p rs r more asks.1 in
-    record { front = a ∷ k.front; last = k.last; is = ap (λ (l : List Asked). a ∷ l) k.is; asks = (asks.0, k.asks); asks_last = k.asks_last }
+    record { front = a ∷ k.front; last = k.last; is = ap (λ (l : List Question). a ∷ l) k.is; asks = (asks.0, k.asks); asks_last = k.asks_last }
 
-after_last : (j : Job) (h : Holding) (front : List Asked) (last : Asked) → after_all_asked j h (front ++ last ∷ []) ≡ after_asked j (after_all_asked j h front) last
+after_last : (j : Job) (h : Holding) (front : List Question) (last : Question) → after_all_asked j h (front ++ last ∷ []) ≡ after_asked j (after_all_asked j h front) last
 unfolding after_all_asked
 after_last j h [] last = refl
 after_last j h (a ∷ front) last = after_last j (after_asked j h a) front last
 
 -- ---- its text
 told_last : (j : Job) (p : ℕ) (labels : List (List ℕ)) (h : Holding) (rs : List Request) (r : Request) (texts : List (List ℕ)) (text : List ℕ) → AreTold j p labels h rs texts →
-    ((more : List Asked) (a : Asked) → AllAsk j p rs more → Asks j p r.command r.body a → AnswersOne j labels (after_all_asked j h more) a text) → AreTold j p labels h (rs ++ r ∷ []) (texts ++ text ∷ [])
+    ((more : List Question) (a : Question) → AllAsk j p rs more → Asks j p r.command r.body a → AnswersOne j labels (after_all_asked j h more) a text) → AreTold j p labels h (rs ++ r ∷ []) (texts ++ text ∷ [])
 unfolding AreTold AllAsk after_all_asked
 told_last j p labels h [] r [] text told last = λ a asks. (last [] a tt asks, tt)
 told_last j p labels h [] r (t ∷ texts) text told last = absurd told
@@ -76,7 +76,7 @@ concat_last : (texts : List (List ℕ)) (text : List ℕ) → concat (texts ++ t
 concat_last texts text = concat-append texts (text ∷ []) ∙ ap (λ (l : List ℕ). concat texts ++ l) (append-nil text)
 
 -- the texts of requests that ask for something are the answers
-all_told : (j : Job) (p : ℕ) (labels : List (List ℕ)) (h : Holding) (rs : List Request) (texts : List (List ℕ)) (more : List Asked) → AreTold j p labels h rs texts → AllAsk j p rs more →
+all_told : (j : Job) (p : ℕ) (labels : List (List ℕ)) (h : Holding) (rs : List Request) (texts : List (List ℕ)) (more : List Question) → AreTold j p labels h rs texts → AllAsk j p rs more →
     AnswersAll j labels h more (concat texts)
 unfolding AreTold AllAsk AnswersAll
 all_told j p labels h [] [] [] told asks = refl
@@ -89,7 +89,7 @@ all_told j p labels h (r ∷ rs) (t ∷ texts) (a ∷ more) told asks =
     (t, concat texts, refl, one.0, all_told j p labels (after_asked j h a) rs texts more one.1 asks.1)
 
 -- whatever follows them
-front_told : (j : Job) (p : ℕ) (labels : List (List ℕ)) (h : Holding) (front rest : List Request) (texts : List (List ℕ)) (more : List Asked) → AreTold j p labels h (front ++ rest) texts → AllAsk j p front more →
+front_told : (j : Job) (p : ℕ) (labels : List (List ℕ)) (h : Holding) (front rest : List Request) (texts : List (List ℕ)) (more : List Question) → AreTold j p labels h (front ++ rest) texts → AllAsk j p front more →
     AnswersAll j labels h more (concat (take (length front) texts))
 unfolding AreTold AllAsk AnswersAll
 front_told j p labels h [] rest texts [] told asks = refl
@@ -111,7 +111,7 @@ runs_none network v old = record {
   holds = λ j p h more same k asks. still j p h more k asks;
 }
   where
-    still : (j : Job) (p : ℕ) (h : Holding) (more : List Asked) → Holds j p h v → AllAsk j p [] more → Holds j p (after_all_asked j h more) v
+    still : (j : Job) (p : ℕ) (h : Holding) (more : List Question) → Holds j p h v → AllAsk j p [] more → Holds j p (after_all_asked j h more) v
     still j p h [] k asks = k
     still j p h (a ∷ more) k asks = absurd asks
 
@@ -129,7 +129,7 @@ runs_more network rs r v w u x y z part runs steps = record {
   holds = λ j p h asked same k asks.
       let l = last_ask j p rs r asked asks in
       let then = runs.holds j p h l.front same k l.asks in
-      subst (λ (q : List Asked). Holds j p (after_all_asked j h q) u) (sym l.is)
+      subst (λ (q : List Question). Holds j p (after_all_asked j h q) u) (sym l.is)
       (subst (λ (q : Holding). Holds j p q u) (sym (after_last j h l.front l.last)) (steps.holds j p (after_all_asked j h l.front) l.last same then l.asks_last));
 }
 
@@ -206,17 +206,17 @@ pub stops_counting : (network : Network) (part : PartValue) (n : ℕ) (a b : Opt
 stops_counting network part n a b v w x y most s = record { number = n; mid = b; some = s; at = (most, refl) }
 
 -- ---- a request
-pub reads_request : (part : PartValue) (a b c : Option (List ℕ)) (line : List ℕ) (order : Command) (body : List ℕ) → Consumes a b (line ++ 10 ∷ []) → Consumes b c body →
-    HasNoEnd line → length line < MOST_LINE → command_in (fields 32 line) ≡ Some order → body_length order ≤ most_body part order → length body ≡ body_length order → ReadsRequest part a c line order body
-reads_request part a b c line order body one two none short says within long = record {
+pub reads_request : (part : PartValue) (a b c : Option (List ℕ)) (line : List ℕ) (order : Command) (body : List ℕ) → ReadsCommand part a b line order → Consumes b c body →
+    length body ≡ body_length order → ReadsRequest part a c line order body
+reads_request part a b c line order body front rest long = record {
   is = record {
-    one_line = none;
-    short = short;
-    says = says;
+    one_line = front.read.one_line;
+    short = front.read.short;
+    says = front.says;
     length_is = long;
-    within = subst (λ (n : ℕ). n ≤ most_body part order) (sym long) within;
+    within = subst (λ (n : ℕ). n ≤ most_body part order) (sym long) front.within;
   };
-  consumed = subst (Consumes a c) (append_assoc line (10 ∷ []) body) (Consumes-trans a b c (line ++ 10 ∷ []) body one two);
+  consumed = subst (Consumes a c) (append_assoc line (10 ∷ []) body) (Consumes-trans a b c (line ++ 10 ∷ []) body front.read.consumed rest);
 }
 
 -- it was answered, and the answer was passed on
@@ -265,11 +265,11 @@ pub told_stops : (part : PartValue) (n : ℕ) (t : TellError) (a b : Option (Lis
 told_stops part n untold.Memory a b lacks = lacks
 told_stops part n untold.Write a b lacks = tt
 
-pub long_line : (a b : Option (List ℕ)) (line : List ℕ) → Consumes a b line → HasNoEnd line → MOST_LINE ≤ length line → NoCommand a b
-long_line a b line read none great = record { line = line; one_line = none; read = inr (read, great) }
+pub long_line : (a b : Option (List ℕ)) (line : List ℕ) → LongLine a b line → NoCommand a b
+long_line a b line r = record { line = line; one_line = r.one_line; read = inr (r.consumed, r.long) }
 
-pub cut_line : (a b : Option (List ℕ)) (line : List ℕ) → Consumes a b line → IsAtEnd b → line ≢ [] → HasNoEnd line → CutShort a b
-cut_line a b line read end some none = record { front = line; some = some; within = inl none; consumed = read; end = end }
+pub cut_line : (a b : Option (List ℕ)) (line : List ℕ) → CutLine a b line → CutShort a b
+cut_line a b line r = record { front = line; some = r.some; within = inl r.one_line; consumed = r.consumed; end = r.end }
 
 pub cut_body : (a b c : Option (List ℕ)) (line : List ℕ) (order : Command) → Consumes a b (line ++ 10 ∷ []) → HasNoEnd line → command_in (fields 32 line) ≡ Some order →
     CutsBody (body_length order) b c → CutShort a c
@@ -282,20 +282,20 @@ cut_body a b c line order read none says cut = record {
 }
 
 -- what follows the line was not read
-pub rest_stops : (part : PartValue) (n : ℕ) (e : ServeError) (a b c : Option (List ℕ)) (line : List ℕ) (order : Command) → Consumes a b (line ++ 10 ∷ []) → HasNoEnd line → length line < MOST_LINE → command_in (fields 32 line) ≡ Some order →
-    body_length order ≤ most_body part order → (e ≡ fault.Cut n → CutsBody (body_length order) b c) → (e ≡ fault.Memory → ReadsBody (body_length order) b c) → (e ≡ fault.Cut n) ⊎ IsOfMachine e → IsNoRequest part n e a c
-rest_stops part n e a b c line order read none short says within cut all (inl is) =
-    subst (λ (k : ServeError). IsNoRequest part n k a c) (sym is) (refl, cut_body a b c line order read none says (cut is))
-rest_stops part n e a b c line order read none short says within cut all (inr machine) =
+pub rest_stops : (part : PartValue) (n : ℕ) (e : ServeError) (a b c : Option (List ℕ)) (line : List ℕ) (order : Command) → ReadsCommand part a b line order →
+    (e ≡ fault.Cut n → CutsBody (body_length order) b c) → (e ≡ fault.Memory → ReadsBody (body_length order) b c) → (e ≡ fault.Cut n) ⊎ IsOfMachine e → IsNoRequest part n e a c
+rest_stops part n e a b c line order front cut all (inl is) =
+    subst (λ (k : ServeError). IsNoRequest part n k a c) (sym is) (refl, cut_body a b c line order front.read.consumed front.read.one_line front.says (cut is))
+rest_stops part n e a b c line order front cut all (inr machine) =
     machine_stops part n e a c machine
     (λ is.
     let body = all is in
-    request_lacks part a c line order body.bytes (reads_request part a b c line order body.bytes read body.consumed none short says within body.long))
+    request_lacks part a c line order body.bytes (reads_request part a b c line order body.bytes front body.consumed body.long))
 
 -- ---- a node from its start
 -- all that it was asked
 all_answered : (network : Network) (j : Job) (p : ℕ) (h : Holding) (rs : List Request) (v w : State) (old new : Option (List ℕ)) → j.graph ≡ network.graph → Holds j p h v → Runs network rs v w old new →
-    (more : List Asked) → AllAsk j p rs more → AppendsAnswers j network.labels h more old new
+    (more : List Question) → AllAsk j p rs more → AppendsAnswers j network.labels h more old new
 all_answered network j p h rs v w old new same k runs more asks = record {
   text = concat runs.texts;
   appended = runs.appended;

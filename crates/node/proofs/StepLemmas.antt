@@ -33,7 +33,7 @@ use Rattle.world.specs.Tell.{Tells}
 use Rattle.node.specs.declared.command.Command.{Command}
 use Rattle.node.specs.declared.command.Command.TheVariants as command
 use Rattle.node.specs.declared.session.Reply.{Reply}
-use Rattle.node.specs.NodeText.{AnswersOne, Asked, Asks, IsDelivered, IsGivenBack, Send, Deliver, Closing, Keep, Restart, Recover, IsNotFor, NoBatch, NotFor, NoCheckpoint, Show, Totals, Figures, after_asked, the_lone_node, closed_line, figures_text, refused_line, send_text, sent_text, took_line, totals_text}
+use Rattle.node.specs.NodeText.{AnswersOne, Question, Asks, IsDelivered, IsGivenBack, Send, Deliver, Closing, Keep, Restart, Recover, IsNotFor, NoBatch, NotFor, NoCheckpoint, Show, Totals, Figures, after_asked, the_lone_node, closed_line, figures_text, refused_line, send_text, sent_text, took_line, totals_text}
 use Rattle.node.specs.Serving.{IfRefused, Steps}
 use Rattle.node.specs.Turns.{AppendsOf, Holds, TurnsTo, batch_word, checkpoint_word, reply_text, said_text}
 use Rattle.ball_model.specs.Job.{PartValue, part_of}
@@ -51,9 +51,9 @@ use Rattle.node.proofs.SessionLemmas.{no_batch_said, no_checkpoint_said, part_he
 -- what a replica v was asked by a command and the bytes behind it is answered by the text, and makes it w
 pub record StepsTo (network : Network) (c : Command) (body : List ℕ) (v w : State)
     (text : List ℕ) : Type 0 where
-  pub answers : (j : Job) (p : ℕ) (h : Holding) (a : Asked) → j.graph ≡ network.graph →
+  pub answers : (j : Job) (p : ℕ) (h : Holding) (a : Question) → j.graph ≡ network.graph →
       Holds j p h v → Asks j p c body a → AnswersOne j network.labels h a text
-  pub holds : (j : Job) (p : ℕ) (h : Holding) (a : Asked) → j.graph ≡ network.graph →
+  pub holds : (j : Job) (p : ℕ) (h : Holding) (a : Question) → j.graph ≡ network.graph →
       Holds j p h v → Asks j p c body a → Holds j p (after_asked j h a) w
   pub named : IfRefused v.part c body (λ line. text ≡ line)
   pub spared : IfRefused v.part c body (λ _. w ≡ v)
@@ -69,32 +69,32 @@ steps_told network c body v w text old new appended s = record {
 }
 
 -- ---- a command that asks for one thing
-lone_step : (network : Network) (c : Command) (body : List ℕ) (v w : State) (text : List ℕ) (b : Asked) →
-    ((j : Job) (p : ℕ) (a : Asked) → Asks j p c body a → a ≡ b) →
+lone_step : (network : Network) (c : Command) (body : List ℕ) (v w : State) (text : List ℕ) (b : Question) →
+    ((j : Job) (p : ℕ) (a : Question) → Asks j p c body a → a ≡ b) →
     ((j : Job) (p : ℕ) (h : Holding) → j.graph ≡ network.graph → Holds j p h v → AnswersOne j network.labels h b text) →
     ((j : Job) (p : ℕ) (h : Holding) → Holds j p h v → Holds j p (after_asked j h b) w) →
     IfRefused v.part c body (λ line. text ≡ line) → IfRefused v.part c body (λ _. w ≡ v) →
     StepsTo network c body v w text
 lone_step network c body v w text b only answers holds named spared = record {
-  answers = λ j p h a same k asks. subst (λ (x : Asked). AnswersOne j network.labels h x text) (sym (only j p a asks)) (answers j p h same k);
-  holds = λ j p h a same k asks. subst (λ (x : Asked). Holds j p (after_asked j h x) w) (sym (only j p a asks)) (holds j p h k);
+  answers = λ j p h a same k asks. subst (λ (x : Question). AnswersOne j network.labels h x text) (sym (only j p a asks)) (answers j p h same k);
+  holds = λ j p h a same k asks. subst (λ (x : Question). Holds j p (after_asked j h x) w) (sym (only j p a asks)) (holds j p h k);
   named = named;
   spared = spared;
 }
 
-asks_send : (j : Job) (p q : ℕ) (body : List ℕ) (a : Asked) → Asks j p (command.Send q) body a → a ≡ Send q
+asks_send : (j : Job) (p q : ℕ) (body : List ℕ) (a : Question) → Asks j p (command.Send q) body a → a ≡ Send q
 asks_send j p q body (Send r) is = ap Send (sym is)
 asks_send j p q body a is = absurd is
 
-asks_close : (j : Job) (p : ℕ) (body : List ℕ) (a : Asked) → Asks j p command.Close body a → a ≡ Closing
+asks_close : (j : Job) (p : ℕ) (body : List ℕ) (a : Question) → Asks j p command.Close body a → a ≡ Closing
 asks_close j p body Closing is = refl
 asks_close j p body a is = absurd is
 
-asks_keep : (j : Job) (p : ℕ) (body : List ℕ) (a : Asked) → Asks j p command.Keep body a → a ≡ Keep
+asks_keep : (j : Job) (p : ℕ) (body : List ℕ) (a : Question) → Asks j p command.Keep body a → a ≡ Keep
 asks_keep j p body Keep is = refl
 asks_keep j p body a is = absurd is
 
-asks_totals : (j : Job) (p : ℕ) (body : List ℕ) (a : Asked) → Asks j p command.Totals body a → a ≡ Totals
+asks_totals : (j : Job) (p : ℕ) (body : List ℕ) (a : Question) → Asks j p command.Totals body a → a ≡ Totals
 asks_totals j p body Totals is = refl
 asks_totals j p body a is = absurd is
 
@@ -172,13 +172,13 @@ deliver_steps network n body v w r text is turned said still answered same_new =
     bad_held : (j : Job) (p : ℕ) (h : Holding) (e : BatchError) → Holds j p h v → batch_at j.plan body ≡ Err e → batch_at v.part.plan body ≡ Err e
     bad_held j p h e k bad = ap (λ (q : PlanValue). batch_at q body) (plan_held j p h v k) ∙ bad
 
-    says : (j : Job) (p : ℕ) (h : Holding) (a : Asked) → Holds j p h v → Asks j p (command.Deliver n) body a → AnswersOne j network.labels h a text
+    says : (j : Job) (p : ℕ) (h : Holding) (a : Question) → Holds j p h v → Asks j p (command.Deliver n) body a → AnswersOne j network.labels h a text
     says j p h (Deliver name) k asks = is ∙ ap reply_text (turned j p h name k asks).says ∙ took_text (held_take_answer j h name)
     says j p h (NoBatch e) k asks = named e (bad_held j p h e k asks)
     says j p h (NotFor e) k asks = named_not e (not_for_held j p h v body e k asks)
     says j p h a k asks = absurd asks
 
-    holds : (j : Job) (p : ℕ) (h : Holding) (a : Asked) → Holds j p h v → Asks j p (command.Deliver n) body a → Holds j p (after_asked j h a) w
+    holds : (j : Job) (p : ℕ) (h : Holding) (a : Question) → Holds j p h v → Asks j p (command.Deliver n) body a → Holds j p (after_asked j h a) w
     holds j p h (Deliver name) k asks = (turned j p h name k asks).holds
     holds j p h (NoBatch e) k asks = subst (Holds j p h) (sym (spared e (bad_held j p h e k asks))) k
     holds j p h (NotFor e) k asks = subst (Holds j p h) (sym (spared_not e (not_for_held j p h v body e k asks))) k
@@ -205,7 +205,7 @@ restart_steps network n body v w r text is anew turned said still = record {
     spared : (e : KeepError) → body ≢ [] → IsNoCheckpoint v.part body e → w ≡ v
     spared e some bad = still e (none e some bad)
 
-    says : (j : Job) (p : ℕ) (h : Holding) (a : Asked) → Holds j p h v → Asks j p (command.Restart n) body a → AnswersOne j network.labels h a text
+    says : (j : Job) (p : ℕ) (h : Holding) (a : Question) → Holds j p h v → Asks j p (command.Restart n) body a → AnswersOne j network.labels h a text
     says j p h (Restart None) k asks =
         is ∙ ap reply_text (anew j p h k asks).says
         ∙ ap (λ (q : ℕ). number_line (codes "restarted") (start_holding j.plan q).superstep) (sym k.held.partition)
@@ -213,7 +213,7 @@ restart_steps network n body v w r text is anew turned said still = record {
     says j p h (NoCheckpoint e) k asks = named e asks.0 (no_checkpoint_held j p h v body e k asks.1)
     says j p h a k asks = absurd asks
 
-    holds : (j : Job) (p : ℕ) (h : Holding) (a : Asked) → Holds j p h v → Asks j p (command.Restart n) body a → Holds j p (after_asked j h a) w
+    holds : (j : Job) (p : ℕ) (h : Holding) (a : Question) → Holds j p h v → Asks j p (command.Restart n) body a → Holds j p (after_asked j h a) w
     holds j p h (Restart None) k asks = subst (λ (q : ℕ). Holds j p (start_holding j.plan q) w) (sym k.held.partition) (anew j p h k asks).holds
     holds j p h (Restart (Some d)) k asks = (turned j p h d k asks.0 asks.1).holds
     holds j p h (NoCheckpoint e) k asks = subst (Holds j p h) (sym (spared e asks.0 (no_checkpoint_held j p h v body e k asks.1))) k
@@ -236,12 +236,12 @@ recover_steps network n body v w r text is turned said still = record {
     spared : (e : KeepError) → IsNoCheckpoint v.part body e → w ≡ v
     spared e bad = still e (no_checkpoint_said v.part body e r said bad)
 
-    says : (j : Job) (p : ℕ) (h : Holding) (a : Asked) → Holds j p h v → Asks j p (command.Recover n) body a → AnswersOne j network.labels h a text
+    says : (j : Job) (p : ℕ) (h : Holding) (a : Question) → Holds j p h v → Asks j p (command.Recover n) body a → AnswersOne j network.labels h a text
     says j p h (Recover c) k asks = is ∙ ap reply_text (turned j p h c k asks).says
     says j p h (NoCheckpoint e) k asks = named e (no_checkpoint_held j p h v body e k asks)
     says j p h a k asks = absurd asks
 
-    holds : (j : Job) (p : ℕ) (h : Holding) (a : Asked) → Holds j p h v → Asks j p (command.Recover n) body a → Holds j p (after_asked j h a) w
+    holds : (j : Job) (p : ℕ) (h : Holding) (a : Question) → Holds j p h v → Asks j p (command.Recover n) body a → Holds j p (after_asked j h a) w
     holds j p h (Recover c) k asks = (turned j p h c k asks).holds
     holds j p h (NoCheckpoint e) k asks = subst (Holds j p h) (sym (spared e (no_checkpoint_held j p h v body e k asks))) k
     holds j p h a k asks = absurd asks
@@ -310,11 +310,11 @@ show_told network body v n old new is shown = record {
   spared = tt;
 }
   where
-    told : (j : Job) (p : ℕ) (h : Holding) (a : Asked) → Holds j p h v → Asks j p command.Show body a → AnswersOne j network.labels h a shown.text
+    told : (j : Job) (p : ℕ) (h : Holding) (a : Question) → Holds j p h v → Asks j p command.Show body a → AnswersOne j network.labels h a shown.text
     told j p h Show k asks = shown.told j h k.has.holding ∙ shown_alone j p h v n k is
     told j p h a k asks = absurd asks
 
-    holds : (j : Job) (p : ℕ) (h : Holding) (a : Asked) → Holds j p h v → Asks j p command.Show body a → Holds j p (after_asked j h a) v
+    holds : (j : Job) (p : ℕ) (h : Holding) (a : Question) → Holds j p h v → Asks j p command.Show body a → Holds j p (after_asked j h a) v
     holds j p h Show k asks = k
     holds j p h a k asks = absurd asks
 
@@ -330,11 +330,11 @@ figures_told network body v old new shown = record {
   spared = tt;
 }
   where
-    told : (j : Job) (p : ℕ) (h : Holding) (a : Asked) → Holds j p h v → Asks j p command.Figures body a → AnswersOne j network.labels h a shown.text
+    told : (j : Job) (p : ℕ) (h : Holding) (a : Question) → Holds j p h v → Asks j p command.Figures body a → AnswersOne j network.labels h a shown.text
     told j p h Figures k asks = shown.told j h k.has.holding
     told j p h a k asks = absurd asks
 
-    holds : (j : Job) (p : ℕ) (h : Holding) (a : Asked) → Holds j p h v → Asks j p command.Figures body a → Holds j p (after_asked j h a) v
+    holds : (j : Job) (p : ℕ) (h : Holding) (a : Question) → Holds j p h v → Asks j p command.Figures body a → Holds j p (after_asked j h a) v
     holds j p h Figures k asks = k
     holds j p h a k asks = absurd asks
 

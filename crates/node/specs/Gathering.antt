@@ -21,9 +21,9 @@ use Rattle.node.specs.NodeText.{IsGivenBack}
 use Rattle.node.specs.Refusals.{IsNodeCheckpoint}
 use Rattle.node.specs.Turns.{Holds}
 
-abbrev pub told_report : ReportError → GatherError
-told_report unreported.Memory = fault.Memory
-told_report unreported.Write = fault.Write
+abbrev pub report_fault : ReportError → GatherError
+report_fault unreported.Memory = fault.Memory
+report_fault unreported.Write = fault.Write
 
 -- ---- definitions
 

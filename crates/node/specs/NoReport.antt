@@ -81,9 +81,9 @@ pub record ReadsNoCheckpoint (part : PartValue) (left left' : Option (List ℕ))
   pub no_checkpoint : IsNoCheckpoint part body e
 
 -- what a refusal of a checkpoint of partition p is told as
-abbrev pub told_kept : ℕ → KeepError → GatherError
-told_kept p unkept.Memory = fault.Memory
-told_kept p e = fault.Checkpoint p e
+abbrev pub checkpoint_fault : ℕ → KeepError → GatherError
+checkpoint_fault p unkept.Memory = fault.Memory
+checkpoint_fault p e = fault.Checkpoint p e
 
 -- nothing was read, or the first byte of a line, or all of what a line announces, which is no more than a checkpoint of
 -- the part has

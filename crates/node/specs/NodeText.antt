@@ -102,19 +102,19 @@ requests_text rs = flat_map request_bytes rs
 
 -- ---- what requests ask of a node of the definition
 
-pub data Asked : Type 0 where
-  Send : ℕ → Asked
-  Deliver : BatchName → Asked
-  Closing : Asked
-  Keep : Asked
-  Restart : Option Holding → Asked
-  Recover : Holding → Asked
-  NoBatch : BatchError → Asked
-  NotFor : TakeError → Asked
-  NoCheckpoint : KeepError → Asked
-  Show : Asked
-  Totals : Asked
-  Figures : Asked
+pub data Question : Type 0 where
+  Send : ℕ → Question
+  Deliver : BatchName → Question
+  Closing : Question
+  Keep : Question
+  Restart : Option Holding → Question
+  Recover : Holding → Question
+  NoBatch : BatchError → Question
+  NotFor : TakeError → Question
+  NoCheckpoint : KeepError → Question
+  Show : Question
+  Totals : Question
+  Figures : Question
 
 -- the bytes are the spelling of the true batch of that name, which one partition may tell another
 pub record IsDelivered (j : Job) (body : List ℕ) (name : BatchName) : Type 0 where
@@ -145,9 +145,9 @@ IsStart j p body (Some h) = (body ≢ []) × IsGivenBack j p body h
 abbrev pub IsOtherStart : Job → ℕ → List ℕ → KeepError → Type 0
 IsOtherStart j p body e = (body ≢ []) × IsNoCheckpoint (part_of j p) body e
 
--- the bytes behind a command of partition p are what it asks for: a true batch, or a checkpoint that stands for the
+-- the bytes after a command of partition p are what it asks for: a true batch, or a checkpoint that stands for the
 -- job; or they are no batch of the plan, or one that is not for the partition, or no checkpoint of the part
-abbrev pub Asks : Job → ℕ → Command → List ℕ → Asked → Type 0
+abbrev pub Asks : Job → ℕ → Command → List ℕ → Question → Type 0
 Asks j p (command.Send q) body (Send r) = q ≡ r
 Asks j p (command.Deliver n) body (Deliver name) = IsDelivered j body name
 Asks j p (command.Deliver n) body (NoBatch e) = batch_at j.plan body ≡ Err e
@@ -164,7 +164,7 @@ Asks j p command.Figures body Figures = ⊤
 Asks j p c body a = ⊥
 
 -- so it is of each request
-unfoldable pub AllAsk : Job → ℕ → List Request → List Asked → Type 0
+unfoldable pub AllAsk : Job → ℕ → List Request → List Question → Type 0
 AllAsk j p [] [] = ⊤
 AllAsk j p (r ∷ rs) (a ∷ more) = Asks j p r.command r.body a × AllAsk j p rs more
 AllAsk j p rs more = ⊥
@@ -234,7 +234,7 @@ pub record IsKeepText (j : Job) (h : Holding) (text : List ℕ) : Type 0 where
   pub text_is : text ≡ kept_text h.superstep bytes
 
 -- the text is the answer of a node of that holding
-abbrev pub AnswersOne : Job → List (List ℕ) → Holding → Asked → List ℕ → Type 0
+abbrev pub AnswersOne : Job → List (List ℕ) → Holding → Question → List ℕ → Type 0
 AnswersOne j labels h (Send q) text = text ≡ send_text j h q
 AnswersOne j labels h (Deliver name) text = text ≡ took_line (held_take_answer j h name)
 AnswersOne j labels h Closing text = text ≡ closed_line (held_close_answer j h)
@@ -252,7 +252,7 @@ AnswersOne j labels h Totals text = text ≡ totals_text j h
 AnswersOne j labels h Figures text = text ≡ figures_text j labels h
 
 -- the holding after it
-abbrev pub after_asked : Job → Holding → Asked → Holding
+abbrev pub after_asked : Job → Holding → Question → Holding
 after_asked j h (Send q) = h
 after_asked j h (Deliver name) = held_after j h (Take name)
 after_asked j h Closing = held_after j h Close
@@ -266,12 +266,12 @@ after_asked j h Show = h
 after_asked j h Totals = h
 after_asked j h Figures = h
 
-unfoldable pub after_all_asked : Job → Holding → List Asked → Holding
+unfoldable pub after_all_asked : Job → Holding → List Question → Holding
 after_all_asked j h [] = h
 after_all_asked j h (a ∷ more) = after_all_asked j (after_asked j h a) more
 
 -- the text is the answers to all that is asked, one after the other
-unfoldable pub AnswersAll : Job → List (List ℕ) → Holding → List Asked → List ℕ → Type 0
+unfoldable pub AnswersAll : Job → List (List ℕ) → Holding → List Question → List ℕ → Type 0
 AnswersAll j labels h [] text = text ≡ []
 AnswersAll j labels h (a ∷ more) text =
     (front : List ℕ) × (rest : List ℕ) × (text ≡ front ++ rest) × AnswersOne j labels h a front

@@ -21,10 +21,10 @@ use Rattle.node.specs.declared.command.Command.{Command}
 use Rattle.node.specs.declared.command.Command.TheVariants as order
 use Rattle.node.specs.declared.error.ServeError.{ServeError}
 use Rattle.node.specs.declared.error.ServeError.TheVariants as fault
-use Rattle.node.specs.NodeText.{AnswersOne, AnswersAll, AllAsk, Asked, Asks, IsNotFor, IsRequest, Request, after_all_asked, after_asked, body_length, command_in, refused_line, request_bytes, requests_text}
+use Rattle.node.specs.NodeText.{AnswersOne, AnswersAll, AllAsk, Question, Asks, IsNotFor, IsRequest, Request, after_all_asked, after_asked, body_length, command_in, refused_line, request_bytes, requests_text}
 use Rattle.node.specs.Refusals.{IsNoCheckpoint}
 use Rattle.node.specs.Job.{IsJobRead}
-use Rattle.node.specs.Stream.{HasNoEnd}
+use Rattle.node.specs.Stream.{HasNoEnd, WholeLine}
 use Rattle.node.specs.declared.input.TheConstants.{MOST_LINE}
 use Rattle.node.specs.Turns.{Holds, batch_word, checkpoint_word, most_body}
 
@@ -36,7 +36,7 @@ serve_error_of untold.Write = fault.Write
 
 -- ---- one answer
 
--- where a node of the part refuses a command and the bytes behind it, whatever it has, this is so of the line that says
+-- where a node of the part refuses a command and the bytes after it, whatever it has, this is so of the line that says
 -- it: there is no such target, or it is the node's own partition; the bytes are no batch of the plan, or one that is not
 -- for the partition; they are no checkpoint of the part
 abbrev pub IfRefused : PartValue → Command → List ℕ → (List ℕ → Type 0) → Type 0
@@ -52,21 +52,28 @@ IfRefused part (order.Recover n) body P =
     (e : KeepError) → IsNoCheckpoint part body e → P (refused_line (checkpoint_word e))
 IfRefused part c body P = ⊤
 
--- what a replica v was asked by a command and the bytes behind it was answered by a text, and it is w now. For each
+-- what a replica v was asked by a command and the bytes after it was answered by a text, and it is w now. For each
 -- holding of a job that v has, and whatever these bytes ask for, the text is the answer, and w has the holding after it.
 -- Where the bytes are refused whatever v has, the text is the line that says so, and w is v
 pub record Steps (network : Network) (c : Command) (body : List ℕ) (v w : State)
     (old new : Option (List ℕ)) : Type 0 where
   pub text : List ℕ
   pub appended : Appends old new text
-  pub told : (j : Job) (p : ℕ) (h : Holding) (a : Asked) → j.graph ≡ network.graph →
+  pub told : (j : Job) (p : ℕ) (h : Holding) (a : Question) → j.graph ≡ network.graph →
       Holds j p h v → Asks j p c body a → AnswersOne j network.labels h a text
-  pub holds : (j : Job) (p : ℕ) (h : Holding) (a : Asked) → j.graph ≡ network.graph →
+  pub holds : (j : Job) (p : ℕ) (h : Holding) (a : Question) → j.graph ≡ network.graph →
       Holds j p h v → Asks j p c body a → Holds j p (after_asked j h a) w
   pub named : IfRefused v.part c body (λ line. text ≡ line)
   pub spared : IfRefused v.part c body (λ _. w ≡ v)
 
 -- ---- a request: it is read, and answered
+
+-- the line of a command was read, after which no more bytes are announced than the part allows
+pub record ReadsCommand (part : PartValue) (left left' : Option (List ℕ)) (line : List ℕ)
+    (c : Command) : Type 0 where
+  pub read : WholeLine left left' line
+  pub says : command_in (fields 32 line) ≡ Some c
+  pub within : body_length c ≤ most_body part c
 
 -- the line of a command was read, and what follows it
 pub record ReadsRequest (part : PartValue) (left left' : Option (List ℕ)) (line : List ℕ)
@@ -99,7 +106,7 @@ pub record NoCommand (left left' : Option (List ℕ)) : Type 0 where
   pub read : (Consumes left left' (line ++ 10 ∷ []) × (command_in (fields 32 line) ≡ None))
       ⊎ (Consumes left left' line × (MOST_LINE ≤ length line))
 
--- the line of a command behind which more bytes are announced than the part allows
+-- the line of a command after which more bytes are announced than the part allows
 pub record TooLong (part : PartValue) (left left' : Option (List ℕ)) : Type 0 where
   pub line : List ℕ
   pub one_line : HasNoEnd line
@@ -108,7 +115,7 @@ pub record TooLong (part : PartValue) (left left' : Option (List ℕ)) : Type 0 
   pub beyond : most_body part command < body_length command
   pub consumed : Consumes left left' (line ++ 10 ∷ [])
 
--- a command with fewer bytes behind its line than it announces
+-- a command with fewer bytes after its line than it announces
 pub record IsCutBody (front : List ℕ) : Type 0 where
   pub line : List ℕ
   pub one_line : HasNoEnd line
@@ -163,7 +170,7 @@ IsOfMachine fault.Write = ⊤
 -- ---- many of them
 
 -- a text was appended that is the answers to all that is asked
-pub record AppendsAnswers (j : Job) (labels : List (List ℕ)) (h : Holding) (more : List Asked)
+pub record AppendsAnswers (j : Job) (labels : List (List ℕ)) (h : Holding) (more : List Question)
     (old new : Option (List ℕ)) : Type 0 where
   pub text : List ℕ
   pub appended : Appends old new text
@@ -171,11 +178,11 @@ pub record AppendsAnswers (j : Job) (labels : List (List ℕ)) (h : Holding) (mo
 
 -- there is a text for each request: whatever the first one asks for, its text is the answer of a node of that holding,
 -- and so it is of the others with the holding after it. (Of a request that asks for nothing, as one that brings an untrue
--- batch, and of all behind it this says nothing.)
+-- batch, and of all after it this says nothing.)
 unfoldable pub AreTold : Job → ℕ → List (List ℕ) → Holding → List Request → List (List ℕ) → Type 0
 AreTold j p labels h [] [] = ⊤
 AreTold j p labels h (r ∷ rs) (text ∷ texts) =
-    (a : Asked) → Asks j p r.command r.body a →
+    (a : Question) → Asks j p r.command r.body a →
     AnswersOne j labels h a text × AreTold j p labels (after_asked j h a) rs texts
 AreTold j p labels h rs texts = ⊥
 
@@ -187,7 +194,7 @@ AreNamed part (r ∷ rs) (text ∷ texts) =
     IfRefused part r.command r.body (λ line. text ≡ line) × AreNamed part rs texts
 AreNamed part rs texts = ⊥
 
--- what a replica v was asked by requests was answered by texts, one behind the other, and it is w now
+-- what a replica v was asked by requests was answered by texts, one after the other, and it is w now
 pub record Runs (network : Network) (rs : List Request) (v w : State)
     (old new : Option (List ℕ)) : Type 0 where
   pub texts : List (List ℕ)
@@ -195,7 +202,7 @@ pub record Runs (network : Network) (rs : List Request) (v w : State)
   pub told : (j : Job) (p : ℕ) (h : Holding) → j.graph ≡ network.graph → Holds j p h v →
       AreTold j p network.labels h rs texts
   pub named : AreNamed v.part rs texts
-  pub holds : (j : Job) (p : ℕ) (h : Holding) (more : List Asked) → j.graph ≡ network.graph →
+  pub holds : (j : Job) (p : ℕ) (h : Holding) (more : List Question) → j.graph ≡ network.graph →
       Holds j p h v → AllAsk j p rs more → Holds j p (after_all_asked j h more) w
 
 -- so many requests were read and answered
@@ -232,7 +239,7 @@ pub record ServesRest (network : Network) (left left' : Option (List ℕ)) (v w 
 
 -- ---- a node from its start
 
--- a node of partition p answered each request by a text, one behind the other. Where a request is refused whatever the
+-- a node of partition p answered each request by a text, one after the other. Where a request is refused whatever the
 -- node has, its text is the line that says so. And as many requests, from the first on, as ask for something have the
 -- answers as their texts, whatever follows them
 pub record AnswersEach (j : Job) (p : ℕ) (labels : List (List ℕ)) (h : Holding)
@@ -240,7 +247,7 @@ pub record AnswersEach (j : Job) (p : ℕ) (labels : List (List ℕ)) (h : Holdi
   pub texts : List (List ℕ)
   pub appended : Appends old new (concat texts)
   pub named : AreNamed (part_of j p) rs texts
-  pub begun : (front rest : List Request) (more : List Asked) → rs ≡ front ++ rest →
+  pub begun : (front rest : List Request) (more : List Question) → rs ≡ front ++ rest →
       AllAsk j p front more → AnswersAll j labels h more (concat (take (length front) texts))
 
 -- the job of the input was read, and all that follows it is requests, which a node of partition p was asked from its
@@ -257,7 +264,7 @@ pub record ServesNode (s : Settings) (counted : Bool) (p : ℕ)
   pub each : All (IsRequest (part_of (job_of network.graph plan) p)) requests
   pub consumed : Consumes mid left' (requests_text requests)
   pub end : IsAtEnd left'
-  pub told : (more : List Asked) → AllAsk (job_of network.graph plan) p requests more →
+  pub told : (more : List Question) → AllAsk (job_of network.graph plan) p requests more →
       AppendsAnswers (job_of network.graph plan) network.labels (start_holding plan p) more old new
   pub answered : AnswersEach (job_of network.graph plan) p network.labels
       (start_holding plan p) requests old new
@@ -274,7 +281,7 @@ pub record StopsNode (s : Settings) (counted : Bool) (p : ℕ) (e : ServeError)
   pub each : All (IsRequest (part_of (job_of network.graph plan) p)) requests
   pub rest : Option (List ℕ)
   pub consumed : Consumes mid rest (requests_text requests)
-  pub told : (more : List Asked) → AllAsk (job_of network.graph plan) p requests more →
+  pub told : (more : List Question) → AllAsk (job_of network.graph plan) p requests more →
       AppendsAnswers (job_of network.graph plan) network.labels (start_holding plan p) more old new
   pub answered : AnswersEach (job_of network.graph plan) p network.labels
       (start_holding plan p) requests old new

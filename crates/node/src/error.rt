@@ -214,9 +214,9 @@ impl From<AllocError> for GatherError {
 }
 
 impl From<ReportError> for GatherError {
-    ghost use Rattle.node.specs.Gathering.{told_report};
+    ghost use Rattle.node.specs.Gathering.{report_fault};
 
-    ghost from_gives = { λ fault e. e ≡ told_report fault };
+    ghost from_gives = { λ fault e. e ≡ report_fault fault };
 
     fn from(fault: ReportError) -> GatherError {
         match fault {

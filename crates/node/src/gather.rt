@@ -13,8 +13,8 @@ ghost use Rattle.edgelist.specs.Job.{settings_of};
 ghost use Rattle.report.specs.Ready.{are_ready};
 ghost use Rattle.node.specs.Gathering.{Gathers, GathersJob, ReadsAll, ReadsCheckpoint, part_line};
 ghost use Rattle.node.specs.Gathering.{part_text};
-ghost use Rattle.node.specs.NoReport.{HasNoReport, IsNoReplica, IsNoReport, WritesFront};
-ghost use Rattle.node.specs.NoReport.{WritesFrontOfJob, IsUnwritten, part_length, told_kept};
+ghost use Rattle.node.specs.NoReport.{HasNoReport, IsNoReplica, IsNoReport, IsUnwritten};
+ghost use Rattle.node.specs.NoReport.{WritesFront, WritesFrontOfJob, checkpoint_fault, part_length};
 ghost use Rattle.node.specs.Stream.{FailsAs, ReadsInLine};
 ghost use Rattle.node.specs.declared.error.JobInputError.TheVariants as no_job;
 
@@ -112,7 +112,7 @@ fn read_bytes<R: CountedRead>(
 
 // What a refusal of the checkpoint of partition `p` is told as.
 fn checkpoint_fault(p: u16, error: KeepError) -> GatherError
-    ensures told { result ≡ told_kept p error }
+    ensures told { result ≡ checkpoint_fault p error }
     ensures read { result ≢ GatherError.Read }
 {
     match error {
@@ -121,86 +121,11 @@ fn checkpoint_fault(p: u16, error: KeepError) -> GatherError
     }
 }
 
-// A partition's part, by the masks of all vertices.
-fn part_by(
-    alloc: Global,
-    graph: &Graph,
-    plan: &Plan,
-    p: u16,
-    feeds: &Feeds,
-) -> Result<Arc<Part>, AllocError>
-    requires job { IsJob (job_of graph.now.graph plan.now) }
-    requires below { p < plan.now.parts }
-    requires feeds { feeds.now ≡ feeds_of graph.now.graph plan.now.parts }
-    ensures { IfOk result (λ part. arc_value part ≡ part_of (job_of graph.now.graph plan.now) p) }
-{
-    let part = graph.part_with(alloc, plan, p, feeds)?;
-    let part = Arc::new(alloc, part)?;
-    Ok(part)
-}
-
-// The replica of the checkpoint of partition `p` that follows.
-fn read_replica<R: CountedRead>(
-    alloc: Global,
-    graph: &Graph,
-    plan: &Plan,
-    p: u16,
-    feeds: &Feeds,
-    reader: &mut R,
-) -> Result<Replica, GatherError>
-    requires job { IsJob (job_of graph.now.graph plan.now) }
-    requires below { p < plan.now.parts }
-    requires feeds { feeds.now ≡ feeds_of graph.now.graph plan.now.parts }
-    ensures read { IfOk result (ReadsCheckpoint (job_of graph.now.graph plan.now) p
-        (R.remaining reader.old) (R.remaining reader.new)) }
-    ensures refused { IfErr result (IsNoReplica (part_of (job_of graph.now.graph plan.now) p)
-        (R.remaining reader.old) (R.remaining reader.new)) }
-    ensures failed { FailsAs R.failed_calls reader.old reader.new result (Err GatherError.Read) }
-{
-    let part = part_by(alloc, graph, plan, p, feeds)?;
-    let mut bytes = Vec::new(alloc);
-    read_bytes(reader, &part, &mut bytes)?;
-    match read_back(alloc, part, &bytes) {
-        Ok(replica) => Ok(replica),
-        Err(error) => Err(checkpoint_fault(p, error)),
-    }
-}
-
 // Adds a replica to others. The error is that memory was refused.
 fn put(replicas: &mut Vec<Replica>, replica: Replica) -> Result<(), AllocError>
     ensures { OnOk result (replicas.new.items ≡ replicas.old.items ++ replica ∷ []) }
 {
     replicas.push(replica)?;
-    Ok(())
-}
-
-// Adds the replica of the checkpoint of partition `p` that follows to those before it. A watch is told of it.
-fn add_replica<R: CountedRead, V: Watch>(
-    alloc: Global,
-    graph: &Graph,
-    plan: &Plan,
-    p: u16,
-    feeds: &Feeds,
-    watch: &V,
-    reader: &mut R,
-    replicas: &mut Vec<Replica>,
-) -> Result<(), GatherError>
-    requires job { IsJob (job_of graph.now.graph plan.now) }
-    requires below { p < plan.now.parts }
-    requires feeds { feeds.now ≡ feeds_of graph.now.graph plan.now.parts }
-    ensures read { (left : Option (List ℕ)) → ReadsAll (job_of graph.now.graph plan.now) p
-        left (R.remaining reader.old) replicas.old.items →
-        OnOk result (ReadsAll (job_of graph.now.graph plan.now) (p + 1)
-        left (R.remaining reader.new) replicas.new.items) }
-    ensures refused { (left : Option (List ℕ)) → ReadsAll (job_of graph.now.graph plan.now) p
-        left (R.remaining reader.old) replicas.old.items →
-        IfErr result (IsNoReport (job_of graph.now.graph plan.now) left (R.remaining reader.new)) }
-    ensures unwritten { result ≢ Err GatherError.Write }
-    ensures failed { FailsAs R.failed_calls reader.old reader.new result (Err GatherError.Read) }
-{
-    let replica = read_replica(alloc, graph, plan, p, feeds, reader)?;
-    show_turn(&replica, watch);
-    put(replicas, replica)?;
     Ok(())
 }
 
@@ -222,33 +147,6 @@ fn read_end<R: CountedRead>(reader: &mut R) -> Result<(), GatherError>
     }
 }
 
-// Reads the replicas of the checkpoints of all partitions into `replicas`, which is empty, up to the end of the input. A
-// watch is told of each. The edges are walked over once for the masks of all parts.
-fn read_replicas<R: CountedRead, V: Watch>(
-    alloc: Global,
-    graph: &Graph,
-    plan: &Plan,
-    watch: &V,
-    reader: &mut R,
-    replicas: &mut Vec<Replica>,
-) -> Result<(), GatherError>
-    requires job { IsJob (job_of graph.now.graph plan.now) }
-    requires none { replicas.old.items ≡ [] }
-    ensures read { OnOk result (ReadsAll (job_of graph.now.graph plan.now)
-        plan.now.parts (R.remaining reader.old) (R.remaining reader.new) replicas.new.items) }
-    ensures end { OnOk result (IsAtEnd (R.remaining reader.new)) }
-    ensures refused { IfErr result (IsNoReport (job_of graph.now.graph plan.now)
-        (R.remaining reader.old) (R.remaining reader.new)) }
-    ensures unwritten { result ≢ Err GatherError.Write }
-    ensures failed { FailsAs R.failed_calls reader.old reader.new result (Err GatherError.Read) }
-{
-    let feeds = graph.feeds(alloc, plan)?;
-    for p in 0..plan.parts() {
-        add_replica(alloc, graph, plan, p, &feeds, watch, reader, replicas)?;
-    }
-    read_end(reader)
-}
-
 // Whether replicas are of the end of one run. It takes no memory.
 fn need_end(replicas: &[Replica]) -> Result<(), GatherError>
     ensures ok { OnOk result (are_ready replicas.now ≡ true) }
@@ -262,56 +160,160 @@ fn need_end(replicas: &[Replica]) -> Result<(), GatherError>
     }
 }
 
-/// Reads the checkpoints of all partitions of a job at the end of its run, and writes their report.
+// What checkpoints are gathered for: a job, and a watch. They are read into memory of the allocator.
+#[derive(Drop)]
+struct Gathering<'a, V> {
+    alloc: Global,
+    graph: &'a Graph,
+    plan: &'a Plan,
+    watch: &'a V,
+}
+
+impl<'a, V: Watch> Gathering<'a, V> {
+    // A partition's part, by the masks of all vertices.
+    fn part(&self, p: u16, feeds: &Feeds) -> Result<Arc<Part>, AllocError>
+        requires job { IsJob (job_of self.now.graph.now.graph self.now.plan.now) }
+        requires below { p < self.now.plan.now.parts }
+        requires feeds { feeds.now ≡ feeds_of self.now.graph.now.graph self.now.plan.now.parts }
+        ensures { IfOk result (λ part.
+            arc_value part ≡ part_of (job_of self.now.graph.now.graph self.now.plan.now) p) }
+    {
+        let part = self.graph.part_with(self.alloc, self.plan, p, feeds)?;
+        let part = Arc::new(self.alloc, part)?;
+        Ok(part)
+    }
+
+    // The replica of the checkpoint of partition `p` that follows.
+    fn read_replica<R: CountedRead>(
+        &self,
+        p: u16,
+        feeds: &Feeds,
+        reader: &mut R,
+    ) -> Result<Replica, GatherError>
+        requires job { IsJob (job_of self.now.graph.now.graph self.now.plan.now) }
+        requires below { p < self.now.plan.now.parts }
+        requires feeds { feeds.now ≡ feeds_of self.now.graph.now.graph self.now.plan.now.parts }
+        ensures read { IfOk result (ReadsCheckpoint
+            (job_of self.now.graph.now.graph self.now.plan.now) p
+            (R.remaining reader.old) (R.remaining reader.new)) }
+        ensures refused { IfErr result (IsNoReplica
+            (part_of (job_of self.now.graph.now.graph self.now.plan.now) p)
+            (R.remaining reader.old) (R.remaining reader.new)) }
+        ensures failed { FailsAs R.failed_calls reader.old reader.new result
+            (Err GatherError.Read) }
+    {
+        let part = self.part(p, feeds)?;
+        let mut bytes = Vec::new(self.alloc);
+        read_bytes(reader, &part, &mut bytes)?;
+        match read_back(self.alloc, part, &bytes) {
+            Ok(replica) => Ok(replica),
+            Err(error) => Err(checkpoint_fault(p, error)),
+        }
+    }
+
+    // Adds the replica of the checkpoint of partition `p` that follows to those before it. The watch is told of it.
+    fn add_replica<R: CountedRead>(
+        &self,
+        p: u16,
+        feeds: &Feeds,
+        reader: &mut R,
+        replicas: &mut Vec<Replica>,
+    ) -> Result<(), GatherError>
+        requires job { IsJob (job_of self.now.graph.now.graph self.now.plan.now) }
+        requires below { p < self.now.plan.now.parts }
+        requires feeds { feeds.now ≡ feeds_of self.now.graph.now.graph self.now.plan.now.parts }
+        ensures read { (left : Option (List ℕ)) →
+            ReadsAll (job_of self.now.graph.now.graph self.now.plan.now) p
+            left (R.remaining reader.old) replicas.old.items →
+            OnOk result (ReadsAll (job_of self.now.graph.now.graph self.now.plan.now) (p + 1)
+            left (R.remaining reader.new) replicas.new.items) }
+        ensures refused { (left : Option (List ℕ)) →
+            ReadsAll (job_of self.now.graph.now.graph self.now.plan.now) p
+            left (R.remaining reader.old) replicas.old.items →
+            IfErr result (IsNoReport (job_of self.now.graph.now.graph self.now.plan.now)
+            left (R.remaining reader.new)) }
+        ensures unwritten { result ≢ Err GatherError.Write }
+        ensures failed { FailsAs R.failed_calls reader.old reader.new result
+            (Err GatherError.Read) }
+    {
+        let replica = self.read_replica(p, feeds, reader)?;
+        show_turn(&replica, self.watch);
+        put(replicas, replica)?;
+        Ok(())
+    }
+
+    // Reads the replicas of the checkpoints of all partitions into `replicas`, which is empty, up to the end of the
+    // input. The watch is told of each. The edges are walked over once for the masks of all parts.
+    fn read_replicas<R: CountedRead>(
+        &self,
+        reader: &mut R,
+        replicas: &mut Vec<Replica>,
+    ) -> Result<(), GatherError>
+        requires job { IsJob (job_of self.now.graph.now.graph self.now.plan.now) }
+        requires none { replicas.old.items ≡ [] }
+        ensures read { OnOk result (ReadsAll (job_of self.now.graph.now.graph self.now.plan.now)
+            self.now.plan.now.parts (R.remaining reader.old) (R.remaining reader.new)
+            replicas.new.items) }
+        ensures end { OnOk result (IsAtEnd (R.remaining reader.new)) }
+        ensures refused { IfErr result (IsNoReport
+            (job_of self.now.graph.now.graph self.now.plan.now)
+            (R.remaining reader.old) (R.remaining reader.new)) }
+        ensures unwritten { result ≢ Err GatherError.Write }
+        ensures failed { FailsAs R.failed_calls reader.old reader.new result
+            (Err GatherError.Read) }
+    {
+        let feeds = self.graph.feeds(self.alloc, self.plan)?;
+        for p in 0..self.plan.parts() {
+            self.add_replica(p, &feeds, reader, replicas)?;
+        }
+        read_end(reader)
+    }
+
+    // Reads the checkpoints of all partitions, and writes their report. The figures are made by at most so many threads;
+    // where 0 are asked for, by all processors.
+    fn gather_parts<T: AllocGlobal + Threads + Sync, R: CountedRead, W: CountedWrite>(
+        &self,
+        rt: &T,
+        threads: usize,
+        reader: &mut R,
+        writer: &mut W,
+    ) -> Result<(), GatherError>
+        requires { IsJob (job_of self.now.graph.now.graph self.now.plan.now) }
+        ensures ok { OnOk result (Gathers (job_of self.now.graph.now.graph self.now.plan.now)
+            self.now.graph.now.labels (R.remaining reader.old) (R.remaining reader.new)
+            (W.contents writer.old) (W.contents writer.new)) }
+        // Which refusal it is.
+        ensures refused { IfErr result (IsNoReport
+            (job_of self.now.graph.now.graph self.now.plan.now)
+            (R.remaining reader.old) (R.remaining reader.new)) }
+        // Nothing was written, or a beginning of the report where memory was refused or a write failed.
+        ensures kept { IfErr result (λ e. IsUnwritten e →
+            Keeps (W.contents writer.old) (W.contents writer.new)) }
+        ensures front { OnErr result (WritesFront
+            (job_of self.now.graph.now.graph self.now.plan.now) self.now.graph.now.labels
+            (R.remaining reader.old) (R.remaining reader.new)
+            (W.contents writer.old) (W.contents writer.new)) }
+        ensures failed { FailsAs R.failed_calls reader.old reader.new result
+            (Err GatherError.Read) }
+        ensures write { FailsAs W.failed_calls writer.old writer.new result
+            (Err GatherError.Write) }
+    {
+        let mut replicas = Vec::new(self.alloc);
+        self.read_replicas(reader, &mut replicas)?;
+        need_end(&replicas)?;
+        write_report_by(rt, writer, self.graph, &replicas, threads)?;
+        Ok(())
+    }
+}
+
+/// Reads a job and the checkpoints of all its partitions at the end of their run, and writes their report.
 ///
 /// For each partition in order a line `part L`, and its checkpoint of L bytes. They are checked as they come, each whole
 /// before the next is read; then that nothing follows, and then that all are of the end of one run. Nothing is written
 /// before that. Memory is taken as bytes come, and may be refused at each; where it is refused or a write fails while the
-/// report is written, a beginning of it was written. The watch is told of each checkpoint that was read, as of a close
-/// that went on to its superstep. The figures are made by at most so many threads; where 0 are asked for, by all
-/// processors.
-pub fn gather_parts<T: AllocGlobal + Threads + Sync, R: CountedRead, W: CountedWrite, V: Watch>(
-    rt: &T,
-    graph: &Graph,
-    plan: &Plan,
-    threads: usize,
-    watch: &V,
-    reader: &mut R,
-    writer: &mut W,
-) -> Result<(), GatherError>
-    requires { IsJob (job_of graph.now.graph plan.now) }
-    ensures ok { OnOk result (Gathers (job_of graph.now.graph plan.now) graph.now.labels
-        (R.remaining reader.old) (R.remaining reader.new)
-        (W.contents writer.old) (W.contents writer.new)) }
-    // Which refusal it is.
-    ensures refused { IfErr result (IsNoReport (job_of graph.now.graph plan.now)
-        (R.remaining reader.old) (R.remaining reader.new)) }
-    // Nothing was written, or a beginning of the report where memory was refused or a write failed.
-    ensures kept { IfErr result (λ e. IsUnwritten e →
-        Keeps (W.contents writer.old) (W.contents writer.new)) }
-    ensures front { OnErr result (WritesFront (job_of graph.now.graph plan.now) graph.now.labels
-        (R.remaining reader.old) (R.remaining reader.new)
-        (W.contents writer.old) (W.contents writer.new)) }
-    // A call failed exactly where that is told.
-    ensures failed { result ≡ Err GatherError.Read →
-        RisesByOne (R.failed_calls reader.old) (R.failed_calls reader.new) }
-    ensures counted { result ≢ Err GatherError.Read →
-        R.failed_calls reader.new ≡ R.failed_calls reader.old }
-    ensures write { result ≡ Err GatherError.Write →
-        RisesByOne (W.failed_calls writer.old) (W.failed_calls writer.new) }
-    ensures written { result ≢ Err GatherError.Write →
-        W.failed_calls writer.new ≡ W.failed_calls writer.old }
-{
-    let mut replicas = Vec::new(rt.alloc());
-    read_replicas(rt.alloc(), graph, plan, watch, reader, &mut replicas)?;
-    need_end(&replicas)?;
-    write_report_by(rt, writer, graph, &replicas, threads)?;
-    Ok(())
-}
-
-/// Reads a job and the checkpoints of all its partitions at the end of their run, and writes their report. The watch is
-/// called once the job is read, and told of each checkpoint. The figures are made by at most so many threads as the options
-/// say.
+/// report is written, a beginning of it was written. The watch is called once the job is read, and told of each checkpoint
+/// that was read, as of a close that went on to its superstep. The figures are made by at most so many threads as the
+/// options say; where they say 0, by all processors.
 pub fn gather<T: AllocGlobal + Threads + Sync, R: CountedRead, W: CountedWrite, V: Watch>(
     rt: &T,
     state: RandomState,
@@ -347,7 +349,13 @@ pub fn gather<T: AllocGlobal + Threads + Sync, R: CountedRead, W: CountedWrite, 
     let (graph, plan, records) = read_job(rt.alloc(), state, job, reader)?;
     watch.after_read(records, graph.vertices());
     let threads = usize::from(job.options.threads);
-    let gathered = gather_parts(rt, &graph, &plan, threads, watch, reader, writer);
+    let gathering = Gathering {
+        alloc: rt.alloc(),
+        graph: &graph,
+        plan: &plan,
+        watch,
+    };
+    let gathered = gathering.gather_parts(rt, threads, reader, writer);
     drop(graph);
     gathered
 }

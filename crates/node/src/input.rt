@@ -2,9 +2,9 @@
 
 ghost use Rattle.std.specs.Prelude.{◌≡◌, ◌≢◌, ◌<◌, ◌≤◌, ◌⊎◌, ◌++◌, ◌∷◌, [], length, OnErr, OnOk};
 ghost use Rattle.std.specs.Prelude.{vec_capacity};
-ghost use Rattle.std.specs.Io.KnownBytes.{Consumes, IsAtEnd};
+ghost use Rattle.std.specs.Io.KnownBytes.{Consumes};
 ghost use Rattle.ball_model.specs.Streams.{RisesByOne};
-ghost use Rattle.node.specs.Stream.{CutsBody, FailsAs, HasNoEnd, ReadsBody, ReadsInLine};
+ghost use Rattle.node.specs.Stream.{CutsBody, FailsAs, ReadsBody, ReadsLine};
 
 use crate::section::{NextByte, next_of};
 use ball_model::{CountedRead, Filled, fill};
@@ -19,7 +19,7 @@ const PIECE: usize = 4096;
 /// What came of reading a line.
 #[derive(Clone, Copy, Debug, PartialEq, Eq)]
 pub enum Line {
-    /// It was read, and the LF behind it.
+    /// It was read, and the LF after it.
     Whole,
     /// The input is at its end.
     None,
@@ -51,24 +51,8 @@ fn put_byte(line: &mut Vec<u8>, byte: u8) -> Result<(), AllocError>
 /// Reads the bytes before the next LF into `line`, which is empty, and the LF. Memory may be refused at the first byte.
 pub fn read_line<R: CountedRead>(reader: &mut R, line: &mut Vec<u8>) -> Line
     requires { line.old.items ≡ [] }
-    ensures whole { result ≡ Line.Whole → Consumes (R.remaining reader.old)
-        (R.remaining reader.new) (line.new.items ++ 10 ∷ []) }
-    ensures one { result ≡ Line.Whole → HasNoEnd line.new.items }
-    ensures short { result ≡ Line.Whole → length line.new.items < MOST_LINE }
-    ensures none { result ≡ Line.None →
-        Consumes (R.remaining reader.old) (R.remaining reader.new) [] }
-    ensures end { result ≡ Line.None → IsAtEnd (R.remaining reader.new) }
-    ensures cut { result ≡ Line.Cut →
-        Consumes (R.remaining reader.old) (R.remaining reader.new) line.new.items }
-    ensures over { result ≡ Line.Cut → IsAtEnd (R.remaining reader.new) }
-    ensures some { result ≡ Line.Cut → line.new.items ≢ [] }
-    ensures part { result ≡ Line.Cut → HasNoEnd line.new.items }
-    ensures long { result ≡ Line.Long →
-        Consumes (R.remaining reader.old) (R.remaining reader.new) line.new.items }
-    ensures no_end { result ≡ Line.Long → HasNoEnd line.new.items }
-    ensures great { result ≡ Line.Long → MOST_LINE ≤ length line.new.items }
-    ensures memory { result ≡ Line.Memory →
-        ReadsInLine (R.remaining reader.old) (R.remaining reader.new) }
+    ensures read { ReadsLine (R.remaining reader.old) (R.remaining reader.new)
+        line.new.items result }
     ensures failed { result ≡ Line.Failed →
         RisesByOne (R.failed_calls reader.old) (R.failed_calls reader.new) }
     ensures counted { result ≢ Line.Failed →

@@ -31,7 +31,7 @@ use std::sync::Arc;
 pub struct JobInput {
     /// What is asked of the job.
     pub options: JobOptions,
-    /// Whether a list of counted vertices, and a line of %%, stand behind the edge list.
+    /// Whether a list of counted vertices, and a line of %%, stand after the edge list.
     pub counted: bool,
 }
 
@@ -62,7 +62,7 @@ fn give_section<R: CountedRead>(
     Err(JobInputError::EdgesSize)
 }
 
-// A mark is wanted behind an edge list that was read. It takes no memory.
+// A mark is wanted after an edge list that was read. It takes no memory.
 fn need_mark(marked: bool) -> Result<(), JobInputError>
     ensures ok { OnOk result (marked ≡ true) }
     ensures none { IfErr result (λ e. (marked ≡ false) × (e ≡ JobInputError.NoMark)) }
@@ -176,10 +176,10 @@ pub fn part_of(alloc: Global, graph: &Graph, plan: &Plan, p: u16) -> Result<Arc<
     Ok(part)
 }
 
-/// The graph and the plan of a job, read up to the mark behind it, and how many records its edge list has.
+/// The graph and the plan of a job, read up to the mark after it, and how many records its edge list has.
 ///
-/// The edge list is refused as it comes. That no mark is behind it is told once all of it is read, and says a network;
-/// that none is behind the list of counted vertices, whatever that says. Then the list is refused, and then the plan.
+/// The edge list is refused as it comes. That no mark is after it is told once all of it is read, and says a network;
+/// that none is after the list of counted vertices, whatever that says. Then the list is refused, and then the plan.
 /// Memory is taken as bytes come, and may be refused at each.
 pub fn read_job<R: CountedRead>(
     alloc: Global,

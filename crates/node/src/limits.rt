@@ -39,7 +39,7 @@ pub fn longest_checkpoint(part: &Part) -> u64
     fixed + size * (ENTRY_LEN as u64 + width) + sums + size * width + early
 }
 
-/// Whether no more bytes are announced behind a command than a batch or a checkpoint of the part has at most.
+/// Whether no more bytes are announced after a command than a batch or a checkpoint of the part has at most.
 pub fn is_within(part: &Part, command: Command) -> bool
     ensures within { result ≡ true → body_length command ≤ most_body part.now command }
     ensures beyond { result ≡ false → most_body part.now command < body_length command }

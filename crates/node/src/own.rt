@@ -27,8 +27,7 @@ fn figures_of(replica: &Replica, x: u32) -> Figures
     ensures { (j : Job) (h : Holding) → HasHolding j h replica.now →
         result ≡ true_figures j h.superstep x }
 {
-    // the limits of a replica are told with its superstep
-    let _superstep = replica.superstep();
+    replica.limits();
     let tally = replica.tally(x);
     Figures {
         estimate: tally.last,
@@ -86,8 +85,7 @@ pub fn tell_own<W: CountedWrite>(
     ensures written { result ≢ Err TellError.Write →
         W.failed_calls writer.new ≡ W.failed_calls writer.old }
 {
-    // the limits of a replica are told with its superstep
-    let _superstep = replica.superstep();
+    replica.limits();
     let partition = replica.partition();
     for i in 0..replica.plan().part_size(partition) {
         tell_vertex(alloc, graph, replica, own_vertex(replica, i), writer)?;

@@ -1,4 +1,4 @@
-//! Sections of an input on a stream: one ends at the first line of exactly `%%`, and nothing behind that line is read.
+//! Sections of an input on a stream: one ends at the first line of exactly `%%`, and nothing after that line is read.
 //!
 //! [`next_step`] goes through a section byte by byte, and tells where it ends at a mark. Bytes are taken from the reader
 //! one at a time, so what follows the mark is still there: the reader underneath is to be a buffered one.
@@ -246,7 +246,7 @@ fn step_of<R: CountedRead>(reader: &mut R, begins: bool, ahead: &mut ArrayVec<u8
     }
 }
 
-/// The next byte of a section, or its end. Nothing is read behind the end.
+/// The next byte of a section, or its end. Nothing is read after the end.
 pub fn next_step<R: CountedRead>(reader: &mut R, cut: &mut Cut) -> SectionStep
     ensures byte { (b : ℕ) → result ≡ SectionStep.Byte b → Gives cut.old.begins b
         (prepend_known cut.old.ahead.items (R.remaining reader.old))

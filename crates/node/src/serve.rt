@@ -1,28 +1,27 @@
 //! Commands, one after the other, and their answers.
 
-ghost use Rattle.std.specs.Prelude.{◌≡◌, ◌≢◌, ℕ, ◌<◌, ◌≤◌, Bool, Option, List, ◌++◌, ◌∷◌, [], true};
-ghost use Rattle.std.specs.Prelude.{false, length, ◌⊎◌, Err, IfErr, IfNone, IfOk, IfSome, Ok, OnOk};
-ghost use Rattle.std.specs.Prelude.{Some};
-ghost use Rattle.std.specs.Io.KnownBytes.{Appends, Consumes, IsAtEnd, Keeps};
-ghost use Rattle.ball_model.specs.Input.{Network, fields};
+ghost use Rattle.std.specs.Prelude.{◌≡◌, ◌≢◌, ℕ, ◌<◌, Bool, Option, List, [], true, false, length};
+ghost use Rattle.std.specs.Prelude.{◌⊎◌, Err, IfErr, IfNone, IfOk, IfSome, Ok, OnOk};
+ghost use Rattle.std.specs.Io.KnownBytes.{Appends, Consumes, Keeps};
+ghost use Rattle.ball_model.specs.Input.{Network};
 ghost use Rattle.ball_model.specs.Job.{IsJob, job_of};
 ghost use Rattle.ball_model.specs.Held.{start_holding};
 ghost use Rattle.ball_model.specs.RunText.{Settings};
 ghost use Rattle.ball_model.specs.Streams.{RisesByOne};
 ghost use Rattle.ball_model.specs.WorldText.{refusal_line};
-ghost use Rattle.node.specs.NodeText.{body_length, command_in, sent_text};
+ghost use Rattle.node.specs.NodeText.{body_length, sent_text};
 ghost use Rattle.edgelist.specs.Job.{settings_of};
 ghost use Rattle.node.specs.Job.{IsJobRead};
 ghost use Rattle.node.specs.NoJob.{HasNoNode, IsNoStart};
-ghost use Rattle.node.specs.Serving.{IsNoRequest, IsOfMachine, ReadsRequest, ServesRest};
+ghost use Rattle.node.specs.Serving.{IsNoRequest, IsOfMachine, ReadsCommand, ReadsRequest};
+ghost use Rattle.node.specs.Serving.{ServesRest};
 ghost use Rattle.node.specs.Serving.{ServesNode, ServesNone, ServesOne, Steps, StopsServing};
 ghost use Rattle.node.specs.Serving.{StopsNode, StopsWanting, WantsNode};
 ghost use Rattle.node.specs.declared.error.JobInputError.{JobInputError as NoJob};
 ghost use Rattle.node.specs.declared.error.ServeError.{ServeError as Fault};
-ghost use Rattle.node.specs.Stream.{CutsBody, FailsAs, HasNoEnd, ReadsBody};
-ghost use Rattle.node.specs.declared.input.TheConstants.{MOST_LINE};
+ghost use Rattle.node.specs.Stream.{CutsBody, FailsAs, NoLine, ReadsBody};
 ghost use Rattle.node.specs.declared.command.Command.TheVariants as order;
-ghost use Rattle.node.specs.Turns.{Holds, most_body, reply_text};
+ghost use Rattle.node.specs.Turns.{Holds, reply_text};
 
 use crate::answers::{put_kept, put_reply, put_sent};
 use crate::command::{Command, command_of, length_of};
@@ -219,40 +218,6 @@ fn answer_totals<W: CountedWrite>(
     write_lines(writer, &text)
 }
 
-// A node does what a command says, and tells it.
-fn answer<W: CountedWrite, V: Watch>(
-    alloc: Global,
-    graph: &Graph,
-    session: &mut Session,
-    command: Command,
-    body: &[u8],
-    watch: &V,
-    line: &mut Vec<u8>,
-    writer: &mut W,
-) -> Result<(), TellError>
-    requires { session.old.part.plan.vertices ≡ graph.now.graph.vertices }
-    ensures step { OnOk result (Steps graph.now command body.now session.old session.new
-        (W.contents writer.old) (W.contents writer.new)) }
-    ensures part { session.new.part ≡ session.old.part }
-    ensures write { FailsAs W.failed_calls writer.old writer.new result (Err TellError.Write) }
-{
-    let replica = session.replica();
-    match command {
-        Command::Send { target } => answer_send(alloc, replica, target, line, writer),
-        Command::Deliver { .. } => answer_deliver(alloc, session, body, line, writer),
-        Command::Close => answer_close(session, watch, line, writer),
-        Command::Keep => answer_keep(replica, line, writer),
-        Command::Restart { .. } => answer_restart(alloc, session, body, line, writer),
-        Command::Recover { .. } => answer_recover(alloc, session, body, line, writer),
-        Command::Show => {
-            let part = replica.partition();
-            tell_shown(NodeId { part, replica: 0 }, replica, line, writer)
-        }
-        Command::Totals => answer_totals(alloc, replica, writer),
-        Command::Figures => tell_own(alloc, graph, replica, writer),
-    }
-}
-
 // Reads the line of a command. None: the input is at its end.
 fn read_command<R: CountedRead>(
     part: &Part,
@@ -261,16 +226,10 @@ fn read_command<R: CountedRead>(
     number: u64,
 ) -> Result<Option<Command>, ServeError>
     requires { line.old.items ≡ [] }
-    ensures consumed { IfOk result (λ o. IfSome o (λ _. Consumes (R.remaining reader.old)
-        (R.remaining reader.new) (line.new.items ++ 10 ∷ []))) }
-    ensures one_line { IfOk result (λ o. IfSome o (λ _. HasNoEnd line.new.items)) }
-    ensures short { IfOk result (λ o. IfSome o (λ _. length line.new.items < MOST_LINE)) }
-    ensures says { IfOk result (λ o. IfSome o (λ c.
-        command_in (fields 32 line.new.items) ≡ Some c)) }
-    ensures within { IfOk result (λ o. IfSome o (λ c. body_length c ≤ most_body part.now c)) }
-    ensures none { IfOk result (λ o. IfNone o (IsAtEnd (R.remaining reader.new))) }
-    ensures kept { IfOk result (λ o. IfNone o
-        (Consumes (R.remaining reader.old) (R.remaining reader.new) [])) }
+    ensures some { IfOk result (λ o. IfSome o (ReadsCommand part.now
+        (R.remaining reader.old) (R.remaining reader.new) line.new.items)) }
+    ensures none { IfOk result (λ o. IfNone o
+        (NoLine (R.remaining reader.old) (R.remaining reader.new))) }
     ensures read { FailsAs R.failed_calls reader.old reader.new result (Err ServeError.Read) }
     ensures unwritten { result ≢ Err ServeError.Write }
     ensures stopped { IfErr result (λ e. IsNoRequest part.now number e
@@ -332,9 +291,8 @@ fn read_request<R: CountedRead>(
     requires body { body.old.items ≡ [] }
     ensures some { IfOk result (λ o. IfSome o (λ c. ReadsRequest part.now
         (R.remaining reader.old) (R.remaining reader.new) line.new.items c body.new.items)) }
-    ensures none { IfOk result (λ o. IfNone o (IsAtEnd (R.remaining reader.new))) }
-    ensures kept { IfOk result (λ o. IfNone o
-        (Consumes (R.remaining reader.old) (R.remaining reader.new) [])) }
+    ensures none { IfOk result (λ o. IfNone o
+        (NoLine (R.remaining reader.old) (R.remaining reader.new))) }
     ensures read { FailsAs R.failed_calls reader.old reader.new result (Err ServeError.Read) }
     ensures unwritten { result ≢ Err ServeError.Write }
     ensures stopped { IfErr result (λ e. IsNoRequest part.now number e
@@ -359,84 +317,6 @@ fn flush<W: CountedWrite>(writer: &mut W) -> Result<(), TellError>
     }
 }
 
-// Reads a request, does what it says and answers it, and tells whether there was one.
-fn serve_one<R: CountedRead, W: CountedWrite, V: Watch>(
-    alloc: Global,
-    graph: &Graph,
-    session: &mut Session,
-    watch: &V,
-    reader: &mut R,
-    writer: &mut W,
-    number: u64,
-) -> Result<bool, ServeError>
-    requires { session.old.part.plan.vertices ≡ graph.now.graph.vertices }
-    ensures served { result ≡ Ok true → ServesOne graph.now (R.remaining reader.old)
-        (R.remaining reader.new) session.old session.new
-        (W.contents writer.old) (W.contents writer.new) }
-    ensures ended { result ≡ Ok false → ServesNone (R.remaining reader.old)
-        (R.remaining reader.new) session.old session.new
-        (W.contents writer.old) (W.contents writer.new) }
-    ensures part { session.new.part ≡ session.old.part }
-    ensures stopped { IfErr result (λ e. IsNoRequest session.old.part number e
-        (R.remaining reader.old) (R.remaining reader.new)) }
-    ensures kept { IfErr result (λ e. (IsOfMachine e → ⊥) →
-        Keeps (W.contents writer.old) (W.contents writer.new)) }
-    ensures same { IfErr result (λ e. (IsOfMachine e → ⊥) → session.new ≡ session.old) }
-    ensures read { FailsAs R.failed_calls reader.old reader.new result (Err ServeError.Read) }
-    ensures write { FailsAs W.failed_calls writer.old writer.new result (Err ServeError.Write) }
-{
-    let mut line = Vec::new(alloc);
-    let mut body = Vec::new(alloc);
-    let Some(command) = read_request(session.part(), reader, &mut line, &mut body, number)? else {
-        return Ok(false);
-    };
-    answer(
-        alloc, graph, session, command, &body, watch, &mut line, writer,
-    )?;
-    flush(writer)?;
-    Ok(true)
-}
-
-/// Answers commands until the input ends. Each answer is passed on before the next command is read. The watch is called
-/// where the node went on by a close, before that is answered.
-pub fn serve_commands<R: CountedRead, W: CountedWrite, V: Watch>(
-    alloc: Global,
-    graph: &Graph,
-    session: &mut Session,
-    watch: &V,
-    reader: &mut R,
-    writer: &mut W,
-) -> Result<(), ServeError>
-    requires { session.old.part.plan.vertices ≡ graph.now.graph.vertices }
-    ensures ok { OnOk result (ServesRest graph.now (R.remaining reader.old) (R.remaining reader.new)
-        session.old session.new (W.contents writer.old) (W.contents writer.new)) }
-    ensures part { session.new.part ≡ session.old.part }
-    // What was answered before a request that cannot be read stands.
-    ensures stopped { IfErr result (λ e. (IsOfMachine e → ⊥) →
-        StopsServing graph.now session.old.part e (R.remaining reader.old) (R.remaining reader.new)
-        session.old session.new (W.contents writer.old) (W.contents writer.new)) }
-    // Memory is refused only where what was read is requests, and the front of a line or all of a request.
-    ensures wanting { result ≡ Err ServeError.Memory →
-        StopsWanting session.old.part (R.remaining reader.old) (R.remaining reader.new) }
-    // A call failed exactly where that is told.
-    ensures read { result ≡ Err ServeError.Read →
-        RisesByOne (R.failed_calls reader.old) (R.failed_calls reader.new) }
-    ensures counted { result ≢ Err ServeError.Read →
-        R.failed_calls reader.new ≡ R.failed_calls reader.old }
-    ensures write { result ≡ Err ServeError.Write →
-        RisesByOne (W.failed_calls writer.old) (W.failed_calls writer.new) }
-    ensures written { result ≢ Err ServeError.Write →
-        W.failed_calls writer.new ≡ W.failed_calls writer.old }
-{
-    for i in 0..u64::MAX {
-        let more = serve_one(alloc, graph, session, watch, reader, writer, i + 1)?;
-        if !more {
-            return Ok(());
-        }
-    }
-    Err(ServeError::TooMany)
-}
-
 // A node of a partition of a job, at its start.
 fn start(alloc: Global, graph: &Graph, plan: &Plan, part: u16) -> Result<Session, JobInputError>
     requires { IsJob (job_of graph.now.graph plan.now) }
@@ -453,52 +333,173 @@ fn start(alloc: Global, graph: &Graph, plan: &Plan, part: u16) -> Result<Session
     Ok(Session::start(alloc, part)?)
 }
 
-// Answers the commands for the node of a partition of a job, from its start on: whatever input the job was read from.
-fn serve_part<R: CountedRead, W: CountedWrite, V: Watch>(
+// What a node is asked: a command, and the bytes that follow its line.
+#[derive(Drop)]
+struct Request<'a> {
+    command: Command,
+    body: &'a [u8],
+}
+
+// What the commands of a node are answered with: the memory that is taken, the network, and a watch.
+#[derive(Drop)]
+struct Server<'a, V> {
     alloc: Global,
-    graph: &Graph,
-    plan: &Plan,
-    part: u16,
-    watch: &V,
-    reader: &mut R,
-    writer: &mut W,
-) -> Result<(), ServeNodeError>
-    requires { IsJob (job_of graph.now.graph plan.now) }
-    ensures served { (s : Settings) (counted : Bool) (left : Option (List ℕ)) →
-        IsJobRead s counted left (R.remaining reader.old) graph.now plan.now →
-        OnOk result (ServesNode s counted part left (R.remaining reader.new)
-        (W.contents writer.old) (W.contents writer.new)) }
-    ensures stopped { (s : Settings) (counted : Bool) (left : Option (List ℕ)) →
-        IsJobRead s counted left (R.remaining reader.old) graph.now plan.now →
-        (e : Fault) → result ≡ Err (ServeNodeError.Serve e) → (IsOfMachine e → ⊥) →
-        StopsNode s counted part e left (R.remaining reader.new)
-        (W.contents writer.old) (W.contents writer.new) }
-    ensures wanting { (s : Settings) (counted : Bool) (left : Option (List ℕ)) →
-        IsJobRead s counted left (R.remaining reader.old) graph.now plan.now →
-        result ≡ Err (ServeNodeError.Serve ServeError.Memory) →
-        WantsNode s counted part left (R.remaining reader.new) }
-    ensures jobless { (e : NoJob) → result ≡ Err (ServeNodeError.Job e) →
-        Keeps (W.contents writer.old) (W.contents writer.new) }
-    ensures same { (e : NoJob) → result ≡ Err (ServeNodeError.Job e) →
-        R.remaining reader.new ≡ R.remaining reader.old }
-    ensures refused { (e : NoJob) → result ≡ Err (ServeNodeError.Job e) →
-        IsNoStart plan.now part e }
-    ensures read { FailsAs R.failed_calls reader.old reader.new result
-        (Err (ServeNodeError.Serve ServeError.Read)) }
-    ensures write { FailsAs W.failed_calls writer.old writer.new result
-        (Err (ServeNodeError.Serve ServeError.Write)) }
-{
-    let mut session = start(alloc, graph, plan, part)?;
-    let served = serve_commands(alloc, graph, &mut session, watch, reader, writer);
-    drop(session);
-    match served {
-        Ok(()) => Ok(()),
-        Err(error) => Err(ServeNodeError::Serve(error)),
+    graph: &'a Graph,
+    watch: &'a V,
+}
+
+impl<'a, V: Watch> Server<'a, V> {
+    // A node does what a request says, and tells it.
+    fn answer<W: CountedWrite>(
+        &self,
+        session: &mut Session,
+        request: &Request,
+        line: &mut Vec<u8>,
+        writer: &mut W,
+    ) -> Result<(), TellError>
+        requires { session.old.part.plan.vertices ≡ self.now.graph.now.graph.vertices }
+        ensures step { OnOk result (Steps self.now.graph.now request.now.command
+            request.now.body.now session.old session.new
+            (W.contents writer.old) (W.contents writer.new)) }
+        ensures part { session.new.part ≡ session.old.part }
+        ensures write { FailsAs W.failed_calls writer.old writer.new result (Err TellError.Write) }
+    {
+        let (alloc, body) = (self.alloc, request.body);
+        let replica = session.replica();
+        match request.command {
+            Command::Send { target } => answer_send(alloc, replica, target, line, writer),
+            Command::Deliver { .. } => answer_deliver(alloc, session, body, line, writer),
+            Command::Close => answer_close(session, self.watch, line, writer),
+            Command::Keep => answer_keep(replica, line, writer),
+            Command::Restart { .. } => answer_restart(alloc, session, body, line, writer),
+            Command::Recover { .. } => answer_recover(alloc, session, body, line, writer),
+            Command::Show => {
+                let part = replica.partition();
+                tell_shown(NodeId { part, replica: 0 }, replica, line, writer)
+            }
+            Command::Totals => answer_totals(alloc, replica, writer),
+            Command::Figures => tell_own(alloc, self.graph, replica, writer),
+        }
+    }
+
+    // Reads a request, does what it says and answers it, and tells whether there was one.
+    fn serve_one<R: CountedRead, W: CountedWrite>(
+        &self,
+        session: &mut Session,
+        reader: &mut R,
+        writer: &mut W,
+        number: u64,
+    ) -> Result<bool, ServeError>
+        requires { session.old.part.plan.vertices ≡ self.now.graph.now.graph.vertices }
+        ensures served { result ≡ Ok true → ServesOne self.now.graph.now (R.remaining reader.old)
+            (R.remaining reader.new) session.old session.new
+            (W.contents writer.old) (W.contents writer.new) }
+        ensures ended { result ≡ Ok false → ServesNone (R.remaining reader.old)
+            (R.remaining reader.new) session.old session.new
+            (W.contents writer.old) (W.contents writer.new) }
+        ensures part { session.new.part ≡ session.old.part }
+        ensures stopped { IfErr result (λ e. IsNoRequest session.old.part number e
+            (R.remaining reader.old) (R.remaining reader.new)) }
+        ensures kept { IfErr result (λ e. (IsOfMachine e → ⊥) →
+            Keeps (W.contents writer.old) (W.contents writer.new)) }
+        ensures same { IfErr result (λ e. (IsOfMachine e → ⊥) → session.new ≡ session.old) }
+        ensures read { FailsAs R.failed_calls reader.old reader.new result (Err ServeError.Read) }
+        ensures write { FailsAs W.failed_calls writer.old writer.new result (Err ServeError.Write) }
+    {
+        let mut line = Vec::new(self.alloc);
+        let mut body = Vec::new(self.alloc);
+        let asked = read_request(session.part(), reader, &mut line, &mut body, number)?;
+        let Some(command) = asked else {
+            return Ok(false);
+        };
+        let request = Request {
+            command,
+            body: &body,
+        };
+        self.answer(session, &request, &mut line, writer)?;
+        flush(writer)?;
+        Ok(true)
+    }
+
+    // Answers commands until the input ends. Each answer is passed on before the next command is read. The watch is
+    // called where the node went on by a close, before that is answered.
+    fn serve_commands<R: CountedRead, W: CountedWrite>(
+        &self,
+        session: &mut Session,
+        reader: &mut R,
+        writer: &mut W,
+    ) -> Result<(), ServeError>
+        requires { session.old.part.plan.vertices ≡ self.now.graph.now.graph.vertices }
+        ensures ok { OnOk result (ServesRest self.now.graph.now
+            (R.remaining reader.old) (R.remaining reader.new)
+            session.old session.new (W.contents writer.old) (W.contents writer.new)) }
+        ensures part { session.new.part ≡ session.old.part }
+        // What was answered before a request that cannot be read stands.
+        ensures stopped { IfErr result (λ e. (IsOfMachine e → ⊥) →
+            StopsServing self.now.graph.now session.old.part e
+            (R.remaining reader.old) (R.remaining reader.new)
+            session.old session.new (W.contents writer.old) (W.contents writer.new)) }
+        // Memory is refused only where what was read is requests, and the front of a line or all of a request.
+        ensures wanting { result ≡ Err ServeError.Memory →
+            StopsWanting session.old.part (R.remaining reader.old) (R.remaining reader.new) }
+        ensures read { FailsAs R.failed_calls reader.old reader.new result (Err ServeError.Read) }
+        ensures write { FailsAs W.failed_calls writer.old writer.new result (Err ServeError.Write) }
+    {
+        for i in 0..u64::MAX {
+            let more = self.serve_one(session, reader, writer, i + 1)?;
+            if !more {
+                return Ok(());
+            }
+        }
+        Err(ServeError::TooMany)
+    }
+
+    // Answers the commands for the node of a partition of a job, from its start on: whatever input the job was read
+    // from.
+    fn serve_part<R: CountedRead, W: CountedWrite>(
+        &self,
+        plan: &Plan,
+        part: u16,
+        reader: &mut R,
+        writer: &mut W,
+    ) -> Result<(), ServeNodeError>
+        requires { IsJob (job_of self.now.graph.now.graph plan.now) }
+        ensures served { (s : Settings) (counted : Bool) (left : Option (List ℕ)) →
+            IsJobRead s counted left (R.remaining reader.old) self.now.graph.now plan.now →
+            OnOk result (ServesNode s counted part left (R.remaining reader.new)
+            (W.contents writer.old) (W.contents writer.new)) }
+        ensures stopped { (s : Settings) (counted : Bool) (left : Option (List ℕ)) →
+            IsJobRead s counted left (R.remaining reader.old) self.now.graph.now plan.now →
+            (e : Fault) → result ≡ Err (ServeNodeError.Serve e) → (IsOfMachine e → ⊥) →
+            StopsNode s counted part e left (R.remaining reader.new)
+            (W.contents writer.old) (W.contents writer.new) }
+        ensures wanting { (s : Settings) (counted : Bool) (left : Option (List ℕ)) →
+            IsJobRead s counted left (R.remaining reader.old) self.now.graph.now plan.now →
+            result ≡ Err (ServeNodeError.Serve ServeError.Memory) →
+            WantsNode s counted part left (R.remaining reader.new) }
+        ensures jobless { (e : NoJob) → result ≡ Err (ServeNodeError.Job e) →
+            Keeps (W.contents writer.old) (W.contents writer.new) }
+        ensures same { (e : NoJob) → result ≡ Err (ServeNodeError.Job e) →
+            R.remaining reader.new ≡ R.remaining reader.old }
+        ensures refused { (e : NoJob) → result ≡ Err (ServeNodeError.Job e) →
+            IsNoStart plan.now part e }
+        ensures read { FailsAs R.failed_calls reader.old reader.new result
+            (Err (ServeNodeError.Serve ServeError.Read)) }
+        ensures write { FailsAs W.failed_calls writer.old writer.new result
+            (Err (ServeNodeError.Serve ServeError.Write)) }
+    {
+        let mut session = start(self.alloc, self.graph, plan, part)?;
+        let served = self.serve_commands(&mut session, reader, writer);
+        drop(session);
+        match served {
+            Ok(()) => Ok(()),
+            Err(error) => Err(ServeNodeError::Serve(error)),
+        }
     }
 }
 
 /// Reads a job, and answers the commands for the node of one of its partitions. That there is no such partition is told
-/// behind all other faults of the job. The watch is called once the job is read, and where the node went on by a close.
+/// after all other faults of the job. The watch is called once the job is read, and where the node went on by a close.
 pub fn serve_node<R: CountedRead, W: CountedWrite, V: Watch>(
     alloc: Global,
     state: RandomState,
@@ -543,7 +544,12 @@ pub fn serve_node<R: CountedRead, W: CountedWrite, V: Watch>(
 {
     let (graph, plan, records) = read_job(alloc, state, job, reader)?;
     watch.after_read(records, graph.vertices());
-    let served = serve_part(alloc, &graph, &plan, part, watch, reader, writer);
+    let server = Server {
+        alloc,
+        graph: &graph,
+        watch,
+    };
+    let served = server.serve_part(&plan, part, reader, writer);
     drop(graph);
     served
 }

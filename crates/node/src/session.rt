@@ -133,8 +133,7 @@ impl Session {
         ensures brought { IsBrought (arc_value batch) self.old self.new }
     {
         let taken = self.replica.take(batch);
-        // the limits of a replica are told with its superstep
-        let _superstep = self.replica.superstep();
+        self.replica.limits();
         answer_to_take(taken)
     }
 
@@ -146,8 +145,7 @@ impl Session {
         ensures part { self.new.part ≡ self.old.part }
     {
         let closed = self.replica.close();
-        // the limits of a replica are told with its superstep
-        let _superstep = self.replica.superstep();
+        self.replica.limits();
         answer_to_close(closed)
     }
 
@@ -358,8 +356,7 @@ fn started(alloc: Global, part: Arc<Part>) -> Result<Replica, AllocError>
         arc_value part ≡ part_of j p → Has j (start_holding j.plan p) r) }
 {
     let replica = Replica::new(alloc, part)?;
-    // the limits of a replica are told with its superstep
-    let _superstep = replica.superstep();
+    replica.limits();
     Ok(replica)
 }
 

@@ -42,8 +42,7 @@ fn tell_rows<W: CountedWrite>(
         (W.contents writer.old) (W.contents writer.new)) }
     ensures write { FailsAs W.failed_calls writer.old writer.new result (Err TellError.Write) }
 {
-    // the limits of a replica are told with its superstep
-    let _superstep = replica.superstep();
+    replica.limits();
     let partition = replica.partition();
     for i in 0..replica.plan().part_size(partition) {
         tell_row(replica, own_vertex(replica, i), line, writer)?;

@@ -7,7 +7,6 @@ use replica::{Replica, Shown};
 
 /// A watch is told that a replica, the only one of its partition, has gone on to its superstep.
 pub fn show_turn<V: Watch>(replica: &Replica, watch: &V) {
-    // the limits of a replica are told with its superstep
     let superstep = replica.superstep();
     let part = replica.partition();
     let vertices = replica.plan().part_size(part);
@@ -15,7 +14,7 @@ pub fn show_turn<V: Watch>(replica: &Replica, watch: &V) {
     watch.after_close(node, superstep, replica.changed_count(), vertices);
 }
 
-/// The same, where that is the answer to a close.
+/// A watch is told so where that is the answer to a close.
 pub fn show_close<V: Watch>(replica: &Replica, answer: Answer, watch: &V) {
     if let Answer::Closed { .. } = answer {
         show_turn(replica, watch);

@@ -9,7 +9,7 @@ use Rattle.figures.specs.declared.ends.Figures.{Figures}
 use Rattle.ball_model.specs.PlanValue.{part_size}
 use Rattle.ball_model.specs.State.{State}
 use Rattle.replica.proofs.IndexLemmas.Own.{place_below}
-use Rattle.report.specs.Parts.{AreAmong, figures_among, figures_at, figures_in, figures_line, lines_between, zero_figures, vertices_text}
+use Rattle.report.specs.Parts.{AreAmong, figures_among, figures_at, figures_in, figures_line, zero_figures, vertices_text}
 use Rattle.report.proofs.WholeLemmas.{HaveSizes}
 
 -- the vertices from `from` on and below `to` have their places from from / parts on and below to / parts, rounded up
@@ -59,7 +59,7 @@ has_place n first last x vs d lists are sizes some inside low high =
     }
 
 -- and it has there what it has among all
-same_figures : (first last x : ℕ) (vs : List State) (d : State) → 0 < length vs → first ≤ x / length vs → x / length vs < last →
+pub same_figures : (first last x : ℕ) (vs : List State) (d : State) → 0 < length vs → first ≤ x / length vs → x / length vs < last →
     figures_at first (map (figures_among first last) vs) x ≡ figures_at 0 (map figures_in vs) x
 same_figures first last x vs d some low high =
     let count : length (map (figures_among first last) vs) ≡ length vs = length-map vs (figures_among first last) in
@@ -77,13 +77,12 @@ lines_same : (f h : ℕ → List ℕ) (from a n to : ℕ) → from ≤ a → a +
 lines_same f h from a zero to low high e = refl
 lines_same f h from a (suc n) to low high e = rw (e a low (omega arith), lines_same f h from (a + 1) n to (omega arith) (omega arith) e) refl
 
--- so the lines are the same
-pub block_lines : (labels : List (List ℕ)) (first last from to : ℕ) (vs : List State) (d : State) (lists : List (List Figures)) → lists ≡ map (figures_among first last) vs → 0 < length vs → from ≤ to →
-    ((x : ℕ) → from ≤ x → first ≤ x / length vs) → ((x : ℕ) → x < to → x / length vs < last) →
-    vertices_text labels first lists from (to - from) ≡ lines_between labels vs from to
+-- lines of the same figures are the same
+pub same_lines : (labels : List (List ℕ)) (first from to : ℕ) (lists all : List (List Figures)) → from ≤ to →
+    ((x : ℕ) → from ≤ x → x < to → figures_at first lists x ≡ figures_at 0 all x) →
+    vertices_text labels first lists from (to - from) ≡ vertices_text labels 0 all from (to - from)
 unfolding vertices_text
-block_lines labels first last from to vs d lists are some le low high =
-    ap (λ (l : List (List Figures)). flat_map (λ x. figures_line (get_or labels x []) (figures_at first l x)) (range_with_len from (to - from))) are
-    ∙ lines_same (λ x. figures_line (get_or labels x []) (figures_at first (map (figures_among first last) vs) x)) (λ x. figures_line (get_or labels x []) (figures_at 0 (map figures_in vs) x))
+same_lines labels first from to lists all le same =
+    lines_same (λ x. figures_line (get_or labels x []) (figures_at first lists x)) (λ x. figures_line (get_or labels x []) (figures_at 0 all x))
     from from (to - from) to (omega arith) (omega arith)
-    (λ x a b. ap (figures_line (get_or labels x [])) (same_figures first last x vs d some (low x a) (high x b)))
+    (λ x low high. ap (figures_line (get_or labels x [])) (same x low high))

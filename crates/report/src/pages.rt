@@ -15,7 +15,7 @@ use std::marker::Model;
 
 /// A text that is kept in pieces, as they were written: each goes where memory is free.
 ///
-/// Its model is the text: all pages, one behind another.
+/// Its model is the text: all pages, one after another.
 #[derive(Drop)]
 pub struct Pages {
     alloc: Global,

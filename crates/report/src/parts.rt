@@ -1,9 +1,11 @@
 //! The parts of a report: totals and figures of all partitions, and their text.
 
-ghost use Rattle.std.specs.Prelude.{◌≡◌, ℕ, ◌≤◌, ◌<◌, ◌-◌, [], IfOk, OnOk, map};
+ghost use Rattle.std.specs.Prelude.{◌≡◌, ℕ, ◌≤◌, ◌<◌, [], IfOk, OnOk, map, true};
 ghost use Rattle.std.specs.List.{All};
-ghost use Rattle.report.specs.Parts.{AreAmong, HasSize, figures_among, figures_at, head_text};
-ghost use Rattle.report.specs.Parts.{lists_in, superstep_lines, total_in, totals_in, vertices_text};
+ghost use Rattle.report.specs.Parts.{AreAmong, HasSize, figures_among, figures_at, figures_in};
+ghost use Rattle.report.specs.Parts.{head_text, lines_from, lists_in, superstep_lines, total_in};
+ghost use Rattle.report.specs.Parts.{totals_in};
+ghost use Rattle.report.specs.Ready.{are_ready};
 ghost use Rattle.report.specs.Rows.{Adds, AtRow};
 
 use crate::lines::{bytes_written, put_end, put_gain, put_superstep, put_vertex, rows_in};
@@ -12,6 +14,7 @@ use edgelist::Graph;
 use figures::{Figures, figures_within, gain};
 use replica::{Replica, Shown};
 use std::alloc::{AllocError, Global};
+use std::ops::Range;
 use std::thread::Threads;
 
 // The bytes of the usual line.
@@ -42,16 +45,16 @@ fn totals(alloc: Global, replicas: &[Replica], end: u32) -> Result<Vec<u128>, Al
     Ok(totals)
 }
 
-// The figures of a replica's vertices at the places from `first` on and below `last`, as far as there are such, by at
-// most so many threads, or by all processors where 0 are asked for.
+// The figures of a replica's vertices at some places, as far as there are such, by at most so many threads, or by all
+// processors where 0 are asked for.
 fn own_figures<T: AllocGlobal + Threads + Sync>(
     rt: &T,
     replica: &Replica,
-    first: usize,
-    last: usize,
+    places: Range<usize>,
     threads: usize,
 ) -> Result<Vec<Figures>, AllocError>
-    ensures value { IfOk result (λ own. own.items ≡ figures_among first last replica.now) }
+    ensures value { IfOk result (λ own.
+        own.items ≡ figures_among places.start places.end replica.now) }
     ensures size { HasSize replica.now }
 {
     replica.limits();
@@ -61,46 +64,86 @@ fn own_figures<T: AllocGlobal + Threads + Sync>(
         alloc,
         replica.rows(),
         replica.tallies(),
-        first..last,
+        places,
         threads,
     )
 }
 
-// Puts these of each replica behind none.
+// Puts these of each replica into `parts`, which is empty.
 fn put_figures<T: AllocGlobal + Threads + Sync>(
     rt: &T,
     parts: &mut Vec<Vec<Figures>>,
     replicas: &[Replica],
-    first: usize,
-    last: usize,
+    places: &Range<usize>,
     threads: usize,
 ) -> Result<(), AllocError>
     requires { parts.old.items ≡ [] }
-    ensures value { OnOk result
-        (lists_in parts.new.items ≡ map (figures_among first last) replicas.now) }
+    ensures value { OnOk result (lists_in parts.new.items ≡
+        map (figures_among places.now.start places.now.end) replicas.now) }
     ensures sizes { OnOk result (All HasSize replicas.now) }
 {
     for replica in replicas {
-        parts.push(own_figures(rt, replica, first, last, threads)?)?;
+        parts.push(own_figures(rt, replica, places.start..places.end, threads)?)?;
     }
     Ok(())
 }
 
 // These of each replica.
-pub(crate) fn figures<T: AllocGlobal + Threads + Sync>(
+fn figures<T: AllocGlobal + Threads + Sync>(
     rt: &T,
     replicas: &[Replica],
-    first: usize,
-    last: usize,
+    places: &Range<usize>,
     threads: usize,
 ) -> Result<Vec<Vec<Figures>>, AllocError>
     ensures value { IfOk result (λ parts.
-        lists_in parts.items ≡ map (figures_among first last) replicas.now) }
+        lists_in parts.items ≡ map (figures_among places.now.start places.now.end) replicas.now) }
     ensures sizes { OnOk result (All HasSize replicas.now) }
 {
     let mut parts = Vec::with_capacity(rt.alloc(), replicas.len())?;
-    put_figures(rt, &mut parts, replicas, first, last, threads)?;
+    put_figures(rt, &mut parts, replicas, places, threads)?;
     Ok(parts)
+}
+
+// The figures of some vertices: of each partition those at the places from `first` on.
+#[derive(Drop)]
+pub(crate) struct Block {
+    pub(crate) first: usize,
+    pub(crate) parts: Vec<Vec<Figures>>,
+}
+
+impl Block {
+    // The figures of these vertices. They are made by at most so many threads, or by all processors if 0 are asked for.
+    pub(crate) fn of<T: AllocGlobal + Threads + Sync>(
+        rt: &T,
+        replicas: &[Replica],
+        vertices: &Range<u32>,
+        threads: usize,
+    ) -> Result<Block, AllocError>
+        requires ready { are_ready replicas.now ≡ true }
+        requires end { All (λ v. vertices.now.end ≤ v.part.plan.vertices) replicas.now }
+        ensures places { IfOk result (λ block. (x : ℕ) →
+            vertices.now.start ≤ x → x < vertices.now.end →
+            AreAmong block.first (lists_in block.parts.items) x) }
+        ensures figures { IfOk result (λ block. (x : ℕ) →
+            vertices.now.start ≤ x → x < vertices.now.end →
+            figures_at block.first (lists_in block.parts.items) x
+            ≡ figures_at 0 (map figures_in replicas.now) x) }
+    {
+        let count = replicas.len();
+        let first = vertices.start as usize / count;
+        let last = (vertices.end as usize).div_ceil(count);
+        let parts = figures(rt, replicas, &(first..last), threads)?;
+        Ok(Block { first, parts })
+    }
+
+    // The figures of vertex `x`.
+    fn figures_at(&self, x: u32) -> Figures
+        requires { AreAmong self.now.first (lists_in self.now.parts.items) x }
+        ensures { result ≡ figures_at self.now.first (lists_in self.now.parts.items) x }
+    {
+        let count = self.parts.len();
+        self.parts[x as usize % count][x as usize / count - self.first]
+    }
 }
 
 // The rows of all supersteps.
@@ -155,54 +198,43 @@ pub(crate) fn head_of(
     head(alloc, &totals, end, stable)
 }
 
-// The figures of vertex `x`, among those of each partition from place `first` on.
-fn figures_at(parts: &[Vec<Figures>], first: usize, x: u32) -> Figures
-    requires { AreAmong first (lists_in parts.now) x }
-    ensures { result ≡ figures_at first (lists_in parts.now) x }
-{
-    let count = parts.len();
-    parts[x as usize % count][x as usize / count - first]
-}
-
-// The rows of the vertices from `from` on and below `to`.
+// The rows of some vertices.
 fn put_rows(
     rows: &mut Writer<Vec<u8>>,
     graph: &Graph,
-    parts: &[Vec<Figures>],
-    first: usize,
-    from: u32,
-    to: u32,
+    block: &Block,
+    vertices: Range<u32>,
 ) -> Result<(), AllocError>
     requires row { AtRow rows.old }
-    requires places { (x : ℕ) → from ≤ x → x < to → AreAmong first (lists_in parts.now) x }
-    requires from { from ≤ to }
-    requires to { to ≤ graph.now.graph.vertices }
+    requires places { (x : ℕ) → vertices.start ≤ x → x < vertices.end →
+        AreAmong block.now.first (lists_in block.now.parts.items) x }
+    requires from { vertices.start ≤ vertices.end }
+    requires to { vertices.end ≤ graph.now.graph.vertices }
     ensures { OnOk result (Adds rows.old rows.new
-        (vertices_text graph.now.labels first (lists_in parts.now) from (to - from))) }
+        (lines_from graph.now block.now vertices.start vertices.end)) }
 {
-    for x in from..to {
-        put_vertex(rows, graph.label(x), figures_at(parts, first, x))?;
+    for x in vertices.start..vertices.end {
+        put_vertex(rows, graph.label(x), block.figures_at(x))?;
     }
     Ok(())
 }
 
 // The text of these rows.
-pub(crate) fn vertices(
+pub(crate) fn vertices_text(
     alloc: Global,
     graph: &Graph,
-    parts: &[Vec<Figures>],
-    first: usize,
-    from: u32,
-    to: u32,
+    block: &Block,
+    vertices: Range<u32>,
 ) -> Result<Vec<u8>, AllocError>
-    requires places { (x : ℕ) → from ≤ x → x < to → AreAmong first (lists_in parts.now) x }
-    requires from { from ≤ to }
-    requires to { to ≤ graph.now.graph.vertices }
+    requires places { (x : ℕ) → vertices.start ≤ x → x < vertices.end →
+        AreAmong block.now.first (lists_in block.now.parts.items) x }
+    requires from { vertices.start ≤ vertices.end }
+    requires to { vertices.end ≤ graph.now.graph.vertices }
     ensures { IfOk result (λ text.
-        text.items ≡ vertices_text graph.now.labels first (lists_in parts.now) from (to - from)) }
+        text.items ≡ lines_from graph.now block.now vertices.start vertices.end) }
 {
-    let room = (to - from) as usize * USUAL_LINE;
+    let room = (vertices.end - vertices.start) as usize * USUAL_LINE;
     let mut rows = rows_in(Vec::with_capacity(alloc, room)?);
-    put_rows(&mut rows, graph, parts, first, from, to)?;
+    put_rows(&mut rows, graph, block, vertices)?;
     bytes_written(rows)
 }

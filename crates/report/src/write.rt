@@ -3,18 +3,18 @@
 ghost use Rattle.std.specs.Prelude.{◌≡◌, ◌≢◌, ℕ, ◌≤◌, ◌<◌, Err, OnErr, OnOk, true};
 ghost use Rattle.std.specs.List.{All};
 ghost use Rattle.ball_model.specs.Streams.{RisesByOne};
-ghost use Rattle.report.specs.Parts.{AreAmong, head_text, lines_between, lines_from, lines_of_all};
-ghost use Rattle.report.specs.Parts.{lists_in, totals_in};
+ghost use Rattle.report.specs.Parts.{AreAmong, head_text, lines_from, lines_of_all, lists_in};
+ghost use Rattle.report.specs.Parts.{totals_in};
 ghost use Rattle.report.specs.Ready.{AddsFront, AddsReportOfAll, are_ready};
 ghost use Rattle.report.specs.Written.{WritesText};
 
-use crate::parts::{figures, head_of, vertices};
+use crate::parts::{Block, head_of, vertices_text};
 use crate::ready::is_stable;
 use ball_model::{CountedWrite, put_all};
 use edgelist::Graph;
-use figures::Figures;
 use replica::{Replica, Shown};
 use std::alloc::{AllocError, Global};
+use std::ops::Range;
 use std::thread::Threads;
 use thiserror::Error;
 
@@ -71,73 +71,46 @@ fn put_top<W: CountedWrite>(
     put(writer, &head_of(alloc, replicas, end, stable)?)
 }
 
-// Writes the lines of the vertices from `from` on and below `to`, in one piece.
+// Writes the lines of some vertices in one piece.
 fn put_piece<W: CountedWrite>(
     alloc: Global,
     writer: &mut W,
     graph: &Graph,
-    parts: &[Vec<Figures>],
-    first: usize,
-    from: u32,
-    to: u32,
+    block: &Block,
+    vertices: Range<u32>,
 ) -> Result<(), ReportError>
-    requires places { (x : ℕ) → from ≤ x → x < to → AreAmong first (lists_in parts.now) x }
-    requires from { from < to }
-    requires to { to ≤ graph.now.graph.vertices }
+    requires places { (x : ℕ) → vertices.start ≤ x → x < vertices.end →
+        AreAmong block.now.first (lists_in block.now.parts.items) x }
+    requires from { vertices.start < vertices.end }
+    requires to { vertices.end ≤ graph.now.graph.vertices }
     ensures { WritesText W.contents W.failed_calls writer.old writer.new
-        (lines_from graph.now parts.now first from to) result }
+        (lines_from graph.now block.now vertices.start vertices.end) result }
 {
-    put(writer, &vertices(alloc, graph, parts, first, from, to)?)
+    put(writer, &vertices_text(alloc, graph, block, vertices)?)
 }
 
-// Writes the lines of the vertices from `from` on and below `to`, of figures from place `first` on.
+// Writes the lines of some vertices.
 fn put_lines<W: CountedWrite>(
     alloc: Global,
     writer: &mut W,
     graph: &Graph,
-    parts: &[Vec<Figures>],
-    first: usize,
-    from: u32,
-    to: u32,
+    block: &Block,
+    vertices: Range<u32>,
 ) -> Result<(), ReportError>
-    requires places { (x : ℕ) → from ≤ x → x < to → AreAmong first (lists_in parts.now) x }
-    requires from { from ≤ to }
-    requires to { to ≤ graph.now.graph.vertices }
+    requires places { (x : ℕ) → vertices.start ≤ x → x < vertices.end →
+        AreAmong block.now.first (lists_in block.now.parts.items) x }
+    requires from { vertices.start ≤ vertices.end }
+    requires to { vertices.end ≤ graph.now.graph.vertices }
     ensures { WritesText W.contents W.failed_calls writer.old writer.new
-        (lines_from graph.now parts.now first from to) result }
+        (lines_from graph.now block.now vertices.start vertices.end) result }
 {
-    let mut at = from;
-    while at < to {
-        let end = at + PIECE.min(to - at);
-        put_piece(alloc, writer, graph, parts, first, at, end)?;
+    let mut at = vertices.start;
+    while at < vertices.end {
+        let end = at + PIECE.min(vertices.end - at);
+        put_piece(alloc, writer, graph, block, at..end)?;
         at = end;
     }
     Ok(())
-}
-
-// Writes the lines of the vertices from `from` on and below `to`. Their figures are made by at most so many threads, or
-// by all processors if 0 are asked for.
-fn put_block<T: AllocGlobal + Threads + Sync, W: CountedWrite>(
-    rt: &T,
-    writer: &mut W,
-    graph: &Graph,
-    replicas: &[Replica],
-    from: u32,
-    to: u32,
-    threads: usize,
-) -> Result<(), ReportError>
-    requires ready { are_ready replicas.now ≡ true }
-    requires graph { All (λ v. v.part.plan.vertices ≡ graph.now.graph.vertices) replicas.now }
-    requires from { from < to }
-    requires to { to ≤ graph.now.graph.vertices }
-    ensures { WritesText W.contents W.failed_calls writer.old writer.new
-        (lines_between graph.now.labels replicas.now from to) result }
-{
-    let count = replicas.len();
-    let first = from as usize / count;
-    let last = (to as usize).div_ceil(count);
-    let parts = figures(rt, replicas, first, last, threads)?;
-    put_lines(rt.alloc(), writer, graph, &parts, first, from, to)
 }
 
 // Writes the lines of all vertices, some of each partition at a time, so that all threads have work.
@@ -154,11 +127,12 @@ fn put_vertices<T: AllocGlobal + Threads + Sync, W: CountedWrite>(
         (lines_of_all graph.now replicas.now) result }
 {
     let count = graph.vertices();
-    let block = BLOCK.max(PIECE * u32::from(replicas[0].plan().parts()));
+    let size = BLOCK.max(PIECE * u32::from(replicas[0].plan().parts()));
     let mut from = 0;
     while from < count {
-        let to = from + block.min(count - from);
-        put_block(rt, writer, graph, replicas, from, to, threads)?;
+        let to = from + size.min(count - from);
+        let block = Block::of(rt, replicas, &(from..to), threads)?;
+        put_lines(rt.alloc(), writer, graph, &block, from..to)?;
         from = to;
     }
     Ok(())

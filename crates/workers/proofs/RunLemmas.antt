@@ -21,8 +21,8 @@ use Rattle.edgelist.specs.declared.read.EdgeError.{EdgeError}
 use Rattle.workers.specs.declared.ends.JobError.{JobError}
 use Rattle.workers.specs.declared.ends.JobError.TheVariants as job
 use Rattle.workers.specs.declared.options.RunOptions.{RunOptions}
-use Rattle.workers.specs.declared.bytes.RunError.{RunError}
-use Rattle.workers.specs.declared.bytes.RunError.TheVariants as fault
+use Rattle.workers.specs.declared.runs.RunError.{RunError}
+use Rattle.workers.specs.declared.runs.RunError.TheVariants as fault
 use Rattle.ball_model.specs.Job.{job_of}
 use Rattle.workers.specs.Job.{IsFirstFault}
 use Rattle.workers.specs.Options.{run_job}

@@ -15,8 +15,8 @@ use Rattle.edgelist.specs.declared.job.NetworkError.TheVariants as unread
 use Rattle.workers.specs.declared.ends.JobError.{JobError}
 use Rattle.workers.specs.declared.ends.JobError.TheVariants as job
 use Rattle.workers.specs.declared.options.RunOptions.{RunOptions}
-use Rattle.workers.specs.declared.bytes.RunError.{RunError}
-use Rattle.workers.specs.declared.bytes.RunError.TheVariants as fault
+use Rattle.workers.specs.declared.runs.RunError.{RunError}
+use Rattle.workers.specs.declared.runs.RunError.TheVariants as fault
 use Rattle.workers.specs.Job.{IsFaultOf, IsFirstFault}
 use Rattle.workers.specs.Options.{are_in_limits, run_job}
 

@@ -32,6 +32,8 @@ pub trait Gate {
 }
 
 /// A gate that does nothing, save that an idle turn yields the thread.
+///
+/// For a library's user: the program does not call it.
 #[derive(Clone, Copy, Debug)]
 pub struct OpenGate;
 

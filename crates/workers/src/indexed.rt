@@ -11,7 +11,8 @@ use std::alloc::{AllocError, Global};
 use std::marker::Model;
 use std::sync::Arc;
 
-/// A part and its index, which can be made while the job's digest is.
+/// A part and its index, which can be made while the job's digest is: nobody shares them yet, so the digest can still be
+/// put in.
 #[derive(Drop)]
 pub(crate) struct IndexedPart {
     part: Part,
@@ -63,7 +64,8 @@ impl IndexedPart {
     }
 }
 
-/// A part that is shared, for one replica, with its index where that was made already.
+/// A part that is shared, for one replica, with its index where that was made already. ([`IndexedPart`] becomes one; a
+/// caller's part is one from the start.)
 #[derive(Drop)]
 pub(crate) struct ReadyPart {
     part: Arc<Part>,

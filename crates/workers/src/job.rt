@@ -15,11 +15,12 @@ use crate::ends::{JobError, done_replicas, is_done};
 use crate::exchange::BoardExchange;
 use crate::gate::Gate;
 use crate::indexed::ReadyPart;
-use crate::node::{NodeError, NodeOrders, run_ready};
+use crate::node::{NodeError, NodeOrders};
 use crate::options::RunOptions;
 use crate::planned::Planned;
 use crate::running::{RunGate, Running};
 use crate::threads::{share_of, threads_for};
+use crate::worker::Worker;
 use ball_model::{NodeId, Plan};
 use board::{Board, Seat};
 use edgelist::{Graph, Watch};
@@ -92,8 +93,14 @@ fn run_at<R: AllocGlobal + Threads + Wait + Sync, G: Gate + Watch>(
     } = post;
     let mut exchange = BoardExchange::new(board, seat);
     let gate = RunGate::new(gate, running);
-    let threads = running.threads();
-    let end = run_ready(rt, &mut exchange, &gate, node, part, &orders, threads);
+    let worker = Worker {
+        rt,
+        gate: &gate,
+        node,
+        orders,
+        threads: running.threads(),
+    };
+    let end = worker.run_ready(&mut exchange, part);
     if !is_done(&end) {
         running.end(node);
     }

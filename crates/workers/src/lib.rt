@@ -25,7 +25,6 @@
 #![tactic(auto)]
 
 mod assignment;
-mod bytes;
 mod ends;
 mod exchange;
 mod gate;
@@ -38,17 +37,19 @@ mod node;
 mod options;
 mod planned;
 mod running;
+mod runs;
 mod shared;
 mod superstep;
 mod threads;
+mod worker;
 
-pub use bytes::{RunError, run, run_watched};
 pub use exchange::{BoardExchange, Exchange};
 pub use gate::{Gate, OpenGate, SleepingGate};
 pub use laws::{histories_are_runs, paths_are_of_nodes, replicas_are_of_runs};
 pub use memory::MemoryExchange;
 pub use node::{NodeEnd, NodeError, NodeOrders, run_node};
 pub use options::RunOptions;
+pub use runs::{RunError, run, run_watched};
 
 #[cfg(test)]
 mod tests;

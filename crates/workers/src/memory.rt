@@ -17,6 +17,8 @@ use std::alloc::{AllocError, Global};
 use std::sync::{Arc, Wait};
 
 /// A board of one caller: nobody else has a seat there, so no call ever waits.
+///
+/// For a library's user: the program does not call it.
 #[derive(Drop)]
 pub struct MemoryExchange {
     board: Board,

@@ -19,8 +19,9 @@ use crate::exchange::Exchange;
 use crate::gate::{Gate, UnwatchedGate};
 use crate::indexed::ReadyPart;
 use crate::shared::SharedTables;
-use crate::superstep::{SuperstepEnd, catch_up, run_superstep};
+use crate::superstep::SuperstepEnd;
 use crate::threads::{share_of, threads_for};
+use crate::worker::Worker;
 use ball_model::NodeId;
 use board::BoardError;
 use edgelist::{Part, Watch};
@@ -86,7 +87,7 @@ impl From<AllocError> for NodeError {
     }
 }
 
-/// How a node's replica fared.
+/// How a node's replica fared: a [`NodeEnd`] without the replica, which is only lent until then.
 #[derive(Clone, Copy)]
 pub enum Fate {
     /// It has reached the end of the run.
@@ -128,90 +129,6 @@ fn replace_replica(alloc: Global, part: &Arc<Part>, replica: &mut Replica) -> Re
     Ok(())
 }
 
-// A new replica takes the place of the old one, with what is kept for the partition.
-fn begin_anew<R: AllocGlobal + Wait, E: Exchange>(
-    rt: &R,
-    exchange: &mut E,
-    node: NodeId,
-    part: &Arc<Part>,
-    replica: &mut Replica,
-) -> Result<(), NodeError>
-    requires caller { IsCaller (E.caller exchange.old) }
-    requires part { IsPartOf (E.caller exchange.old) node.part (arc_value part.now) }
-    ensures seen { Extends (E.caller exchange.old) (E.caller exchange.new) }
-    ensures stands { OnOk result (StandsIn (E.caller exchange.old) node.part replica.new) }
-    ensures anew { OnOk result (IsAnew (E.caller exchange.old) node.part replica.new.superstep
-        (E.caller exchange.new)) }
-    ensures came { OnOk result (HasCome (E.caller exchange.old) node.part (holding_in replica.old)
-        (holding_in replica.new) (E.caller exchange.new)) }
-    ensures gone { OnErr result (HasGone (E.caller exchange.old) node.part (holding_in replica.old)
-        (E.caller exchange.new)) }
-    ensures full { IfErr result (λ e. e ≡ BookFull → IsFull (E.caller exchange.new)) }
-{
-    replace_replica(rt.alloc(), part, replica)?;
-    catch_up(rt, exchange, node, 0, replica)?;
-    Ok(())
-}
-
-// The replica goes on, superstep by superstep, until its fate is met. It uses so many threads.
-fn go_on<R: AllocGlobal + Threads + Wait + Sync, E: Exchange, G: Gate + Watch>(
-    rt: &R,
-    exchange: &mut E,
-    gate: &G,
-    node: NodeId,
-    part: &Arc<Part>,
-    orders: &NodeOrders,
-    threads: usize,
-    replica: &mut Replica,
-) -> Result<Fate, NodeError>
-    requires caller { IsCaller (E.caller exchange.old) }
-    requires part { IsPartOf (E.caller exchange.old) node.part (arc_value part.now) }
-    requires stands { StandsIn (E.caller exchange.old) node.part replica.old }
-    ensures seen { Extends (E.caller exchange.old) (E.caller exchange.new) }
-    ensures stands { OnOk result (StandsIn (E.caller exchange.old) node.part replica.new) }
-    ensures fate { IfOk result (λ fate. IsFate (E.caller exchange.old) node.part orders.now
-        replica.new fate (E.caller exchange.new)) }
-    ensures came { OnOk result (IsPath orders.now.keep (E.caller exchange.old) node.part
-        (holding_in replica.old) (holding_in replica.new) (E.caller exchange.new)) }
-    ensures gone { OnErr result (HasPath orders.now.keep (E.caller exchange.old) node.part
-        (holding_in replica.old) (E.caller exchange.new)) }
-    ensures full { IfErr result (λ e. e ≡ BookFull → IsFull (E.caller exchange.new)) }
-    ensures alone { (E.caller exchange.old).seen.job.plan.parts ≡ 1 → orders.now.keep ≡ 0 →
-        orders.now.restart ≡ None → result ≢ Err BookFull }
-{
-    let mut restart = orders.restart;
-    let mut tables = SharedTables::none();
-    for _ in rt.forever() {
-        let superstep = replica.superstep();
-        if falls_due(orders.lose, superstep) {
-            return Ok(Fate::Lost { superstep });
-        }
-        if falls_due(restart, superstep) {
-            restart = None;
-            begin_anew(rt, exchange, node, part, replica)?;
-            continue;
-        }
-        match run_superstep(
-            rt,
-            exchange,
-            gate,
-            node,
-            orders,
-            threads,
-            &mut tables,
-            replica,
-        )? {
-            SuperstepEnd::Next => {}
-            SuperstepEnd::Over => return Ok(Fate::Done),
-            SuperstepEnd::Starved { source } => {
-                let superstep = replica.superstep();
-                return Ok(Fate::Starved { superstep, source });
-            }
-        }
-    }
-    unreachable!()
-}
-
 // How a node ended whose replica is not at the end of the run.
 fn early_end(fate: Fate) -> Option<NodeEnd>
     ensures { result ≡ early_end fate }
@@ -230,6 +147,124 @@ fn end_with(fate: Result<Fate, NodeError>, replica: Replica) -> Result<NodeEnd, 
     Ok(early_end(fate?).unwrap_or(NodeEnd::Done(replica)))
 }
 
+impl<'a, R: AllocGlobal + Threads + Wait + Sync, G: Gate + Watch> Worker<'a, R, G> {
+    // A new replica takes the place of the old one, with what is kept for the partition.
+    fn begin_anew<E: Exchange>(
+        &self,
+        exchange: &mut E,
+        part: &Arc<Part>,
+        replica: &mut Replica,
+    ) -> Result<(), NodeError>
+        requires caller { IsCaller (E.caller exchange.old) }
+        requires part { IsPartOf (E.caller exchange.old) self.now.node.part (arc_value part.now) }
+        ensures seen { Extends (E.caller exchange.old) (E.caller exchange.new) }
+        ensures stands { OnOk result (StandsIn (E.caller exchange.old) self.now.node.part
+            replica.new) }
+        ensures anew { OnOk result (IsAnew (E.caller exchange.old) self.now.node.part
+            replica.new.superstep (E.caller exchange.new)) }
+        ensures came { OnOk result (HasCome (E.caller exchange.old) self.now.node.part
+            (holding_in replica.old) (holding_in replica.new) (E.caller exchange.new)) }
+        ensures gone { OnErr result (HasGone (E.caller exchange.old) self.now.node.part
+            (holding_in replica.old) (E.caller exchange.new)) }
+        ensures full { IfErr result (λ e. e ≡ BookFull → IsFull (E.caller exchange.new)) }
+    {
+        replace_replica(self.rt.alloc(), part, replica)?;
+        self.catch_up(exchange, 0, replica)?;
+        Ok(())
+    }
+
+    // The replica goes on, superstep by superstep, until its fate is met.
+    fn go_on<E: Exchange>(
+        &self,
+        exchange: &mut E,
+        part: &Arc<Part>,
+        replica: &mut Replica,
+    ) -> Result<Fate, NodeError>
+        requires caller { IsCaller (E.caller exchange.old) }
+        requires part { IsPartOf (E.caller exchange.old) self.now.node.part (arc_value part.now) }
+        requires stands { StandsIn (E.caller exchange.old) self.now.node.part replica.old }
+        ensures seen { Extends (E.caller exchange.old) (E.caller exchange.new) }
+        ensures stands { OnOk result (StandsIn (E.caller exchange.old) self.now.node.part
+            replica.new) }
+        ensures fate { IfOk result (λ fate. IsFate (E.caller exchange.old) self.now.node.part
+            self.now.orders replica.new fate (E.caller exchange.new)) }
+        ensures came { OnOk result (IsPath self.now.orders.keep (E.caller exchange.old)
+            self.now.node.part (holding_in replica.old) (holding_in replica.new)
+            (E.caller exchange.new)) }
+        ensures gone { OnErr result (HasPath self.now.orders.keep (E.caller exchange.old)
+            self.now.node.part (holding_in replica.old) (E.caller exchange.new)) }
+        ensures full { IfErr result (λ e. e ≡ BookFull → IsFull (E.caller exchange.new)) }
+        ensures alone { (E.caller exchange.old).seen.job.plan.parts ≡ 1 → self.now.orders.keep ≡ 0 →
+            self.now.orders.restart ≡ None → result ≢ Err BookFull }
+    {
+        let mut restart = self.orders.restart;
+        let mut tables = SharedTables::none();
+        for _ in self.rt.forever() {
+            let superstep = replica.superstep();
+            if falls_due(self.orders.lose, superstep) {
+                return Ok(Fate::Lost { superstep });
+            }
+            if falls_due(restart, superstep) {
+                restart = None;
+                self.begin_anew(exchange, part, replica)?;
+                continue;
+            }
+            match self.run_superstep(exchange, &mut tables, replica)? {
+                SuperstepEnd::Next => {}
+                SuperstepEnd::Over => return Ok(Fate::Done),
+                SuperstepEnd::Starved { source } => {
+                    let superstep = replica.superstep();
+                    return Ok(Fate::Starved { superstep, source });
+                }
+            }
+        }
+        unreachable!()
+    }
+
+    /// Runs the node as [`run_node`] says, by a part that is ready for it.
+    pub(crate) fn run_ready<E: Exchange>(
+        &self,
+        exchange: &mut E,
+        part: ReadyPart,
+    ) -> Result<NodeEnd, NodeError>
+        requires caller { IsCaller (E.caller exchange.old) }
+        requires job { IsJob (E.caller exchange.old).seen.job }
+        requires node { self.now.node.part < (E.caller exchange.old).seen.job.plan.parts }
+        requires part { part ≡ part_of (E.caller exchange.old).seen.job self.now.node.part }
+        ensures seen { Extends (E.caller exchange.old) (E.caller exchange.new) }
+        ensures ends { EndsAs (E.caller exchange.old) self.now.node.part self.now.orders result
+            (E.caller exchange.new) }
+        ensures fits { (E.caller exchange.old).seen.job.plan.parts ≡ 1 → self.now.orders.keep ≡ 0 →
+            self.now.orders.restart ≡ None → result ≢ Err BookFull }
+    {
+        let shared = Arc::try_clone(part.part())?;
+        let replica = part.into_replica(self.rt.alloc())?;
+        self.run_from(exchange, &shared, replica)
+    }
+
+    // Runs the node to its end, by a new replica.
+    fn run_from<E: Exchange>(
+        &self,
+        exchange: &mut E,
+        part: &Arc<Part>,
+        replica: Replica,
+    ) -> Result<NodeEnd, NodeError>
+        requires caller { IsCaller (E.caller exchange.old) }
+        requires part { IsPartOf (E.caller exchange.old) self.now.node.part (arc_value part.now) }
+        requires first { IsFirst (E.caller exchange.old).seen.job self.now.node.part replica }
+        ensures seen { Extends (E.caller exchange.old) (E.caller exchange.new) }
+        ensures ends { EndsAs (E.caller exchange.old) self.now.node.part self.now.orders result
+            (E.caller exchange.new) }
+        ensures fits { (E.caller exchange.old).seen.job.plan.parts ≡ 1 → self.now.orders.keep ≡ 0 →
+            self.now.orders.restart ≡ None → result ≢ Err BookFull }
+    {
+        let mut replica = replica;
+        self.gate.after_start(self.node);
+        let fate = self.go_on(exchange, part, &mut replica);
+        end_with(fate, replica)
+    }
+}
+
 /// Runs a node of a partition, from superstep 0 to its end.
 ///
 /// At each superstep it is lost or starts anew where an order falls due, keeps a snapshot, tells every other partition
@@ -240,6 +275,8 @@ fn end_with(fate: Result<Fate, NodeError>, replica: Replica) -> Result<NodeEnd, 
 ///
 /// [`BookFull`](NodeError::BookFull) where a call of the exchange is refused because the history is full,
 /// [`Memory`](NodeError::Memory) where a growth is refused, each as it happens.
+///
+/// For a library's user: the program does not call it.
 pub fn run_node<R: AllocGlobal + Threads + Wait + Sync, E: Exchange, G: Gate>(
     rt: &R,
     exchange: &mut E,
@@ -285,65 +322,12 @@ pub fn run_node<R: AllocGlobal + Threads + Wait + Sync, E: Exchange, G: Gate>(
     let threads = share_of(threads_for(rt, 0), part.plan().parts(), 1);
     let part = ReadyPart::of(part);
     let gate = UnwatchedGate::new(gate);
-    run_ready(rt, exchange, &gate, node, part, orders, threads)
-}
-
-/// Runs a node of a partition as [`run_node`] says, by a part that is ready for it, and in so many threads.
-pub(crate) fn run_ready<R: AllocGlobal + Threads + Wait + Sync, E: Exchange, G: Gate + Watch>(
-    rt: &R,
-    exchange: &mut E,
-    gate: &G,
-    node: NodeId,
-    part: ReadyPart,
-    orders: &NodeOrders,
-    threads: usize,
-) -> Result<NodeEnd, NodeError>
-    requires caller { IsCaller (E.caller exchange.old) }
-    requires job { IsJob (E.caller exchange.old).seen.job }
-    requires node { node.part < (E.caller exchange.old).seen.job.plan.parts }
-    requires part { part ≡ part_of (E.caller exchange.old).seen.job node.part }
-    ensures seen { Extends (E.caller exchange.old) (E.caller exchange.new) }
-    ensures ends { EndsAs (E.caller exchange.old) node.part orders.now result
-        (E.caller exchange.new) }
-    ensures fits { (E.caller exchange.old).seen.job.plan.parts ≡ 1 → orders.now.keep ≡ 0 →
-        orders.now.restart ≡ None → result ≢ Err BookFull }
-{
-    let shared = Arc::try_clone(part.part())?;
-    let replica = part.into_replica(rt.alloc())?;
-    run_from(rt, exchange, gate, node, &shared, orders, threads, replica)
-}
-
-// Runs a node of a partition to its end, by a new replica and in so many threads.
-fn run_from<R: AllocGlobal + Threads + Wait + Sync, E: Exchange, G: Gate + Watch>(
-    rt: &R,
-    exchange: &mut E,
-    gate: &G,
-    node: NodeId,
-    part: &Arc<Part>,
-    orders: &NodeOrders,
-    threads: usize,
-    replica: Replica,
-) -> Result<NodeEnd, NodeError>
-    requires caller { IsCaller (E.caller exchange.old) }
-    requires part { IsPartOf (E.caller exchange.old) node.part (arc_value part.now) }
-    requires first { IsFirst (E.caller exchange.old).seen.job node.part replica }
-    ensures seen { Extends (E.caller exchange.old) (E.caller exchange.new) }
-    ensures ends { EndsAs (E.caller exchange.old) node.part orders.now result
-        (E.caller exchange.new) }
-    ensures fits { (E.caller exchange.old).seen.job.plan.parts ≡ 1 → orders.now.keep ≡ 0 →
-        orders.now.restart ≡ None → result ≢ Err BookFull }
-{
-    let mut replica = replica;
-    gate.after_start(node);
-    let fate = go_on(
+    let worker = Worker {
         rt,
-        exchange,
-        gate,
+        gate: &gate,
         node,
-        part,
-        orders,
+        orders: *orders,
         threads,
-        &mut replica,
-    );
-    end_with(fate, replica)
+    };
+    worker.run_ready(exchange, part)
 }

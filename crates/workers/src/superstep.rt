@@ -23,9 +23,10 @@ ghost use Rattle.workers.specs.Tie.{HasCome, HasGone, HasPath, IsPath, KeptIfTol
 
 use crate::exchange::Exchange;
 use crate::gate::Gate;
-use crate::node::{NodeError, NodeOrders};
+use crate::node::NodeError;
 use crate::shared::SharedTables;
-use ball_model::{BatchName, NodeId};
+use crate::worker::Worker;
+use ball_model::BatchName;
 use batches::Batch;
 use edgelist::Watch;
 use replica::{ChangedRows, Replica, Shown, Snapshot};
@@ -55,40 +56,6 @@ pub enum Found {
     Missed { source: u16 },
 }
 
-/// Takes over the snapshot that is kept for the replica's partition, where its superstep is `at_least` so much; and
-/// whether there is one.
-pub fn catch_up<R: AllocGlobal + Wait, E: Exchange>(
-    rt: &R,
-    exchange: &mut E,
-    node: NodeId,
-    at_least: u32,
-    replica: &mut Replica,
-) -> Result<bool, NodeError>
-    requires caller { IsCaller (E.caller exchange.old) }
-    requires stands { StandsIn (E.caller exchange.old) node.part replica.old }
-    ensures seen { Extends (E.caller exchange.old) (E.caller exchange.new) }
-    ensures stands { OnOk result (StandsIn (E.caller exchange.old) node.part replica.new) }
-    ensures none { IfOk result (λ found. found ≡ false → replica.new ≡ replica.old) }
-    ensures found { IfOk result (λ found. found ≡ true →
-        HasRecalled (E.caller exchange.old) node.part at_least replica.old.superstep
-        replica.new.superstep (E.caller exchange.new)) }
-    ensures came { OnOk result (HasCome (E.caller exchange.old) node.part (holding_in replica.old)
-        (holding_in replica.new) (E.caller exchange.new)) }
-    ensures gone { OnErr result (HasGone (E.caller exchange.old) node.part (holding_in replica.old)
-        (E.caller exchange.new)) }
-    ensures full { IfErr result (λ e. e ≡ BookFull → IsFull (E.caller exchange.new)) }
-{
-    let Some(snapshot) = exchange.recall(rt, node.part, at_least)? else {
-        return Ok(false);
-    };
-    // the limits of both are told with their supersteps
-    let _supersteps = (replica.superstep(), snapshot.superstep());
-    let Ok(()) = replica.merge(rt.alloc(), &snapshot) else {
-        return Err(NodeError::Memory);
-    };
-    Ok(true)
-}
-
 // A snapshot of the replica, as threads share it.
 fn shared_snapshot(alloc: Global, replica: &mut Replica) -> Result<Arc<Snapshot>, AllocError>
     ensures same { IfOk result (λ s. arc_value s ≡ replica.old) }
@@ -102,37 +69,6 @@ fn is_kept_at(every: u32, superstep: u32) -> bool
     ensures { result ≡ is_kept_at every superstep }
 {
     every != 0 && superstep % every == 0
-}
-
-// Keeps a snapshot at each superstep that is a multiple of `every`, and none where that is 0.
-fn keep_snapshot<R: AllocGlobal + Wait, E: Exchange>(
-    rt: &R,
-    exchange: &mut E,
-    node: NodeId,
-    every: u32,
-    replica: &mut Replica,
-) -> Result<(), NodeError>
-    requires caller { IsCaller (E.caller exchange.old) }
-    requires stands { StandsIn (E.caller exchange.old) node.part replica.old }
-    ensures seen { Extends (E.caller exchange.old) (E.caller exchange.new) }
-    ensures same { replica.new ≡ replica.old }
-    ensures kept { is_kept_at every replica.old.superstep ≡ true → OnOk result (
-        HasKept (E.caller exchange.old) (holding_in replica.old) (E.caller exchange.new)) }
-    ensures unkept { is_kept_at every replica.old.superstep ≡ false →
-        CalledNothing (E.caller exchange.old) (E.caller exchange.new) }
-    ensures came { OnOk result (IsPath every (E.caller exchange.old) node.part
-        (holding_in replica.old) (holding_in replica.new) (E.caller exchange.new)) }
-    ensures gone { OnErr result (HasGone (E.caller exchange.old) node.part (holding_in replica.old)
-        (E.caller exchange.new)) }
-    ensures full { IfErr result (λ e. e ≡ BookFull → IsFull (E.caller exchange.new)) }
-    ensures never { every ≡ 0 → result ≢ Err BookFull }
-{
-    if !is_kept_at(every, replica.superstep()) {
-        return Ok(());
-    }
-    let snapshot = shared_snapshot(rt.alloc(), replica)?;
-    exchange.keep(rt, snapshot)?;
-    Ok(())
 }
 
 // What another partition is told of the superstep, as threads share it.
@@ -151,287 +87,325 @@ fn shared_batch(
     Ok(Arc::new(alloc, replica.out_of(alloc, changed, target)?)?)
 }
 
-// Tells one other partition of the superstep.
-fn tell<R: AllocGlobal + Wait, E: Exchange, G: Gate>(
-    rt: &R,
-    exchange: &mut E,
-    gate: &G,
-    node: NodeId,
-    replica: &Replica,
-    changed: &ChangedRows,
-    target: u16,
-) -> Result<(), NodeError>
-    requires caller { IsCaller (E.caller exchange.old) }
-    requires stands { StandsIn (E.caller exchange.old) node.part replica.now }
-    requires target { target < (E.caller exchange.old).seen.job.plan.parts }
-    requires other { target ≢ node.part }
-    requires changed { AreChanged replica.now changed.now }
-    ensures seen { Extends (E.caller exchange.old) (E.caller exchange.new) }
-    ensures posted { OnOk result (HasPosted (E.caller exchange.old)
-        (batch_name replica.now.superstep node.part target) (E.caller exchange.new)) }
-    ensures came { OnOk result (HasCome (E.caller exchange.old) node.part (holding_in replica.now)
-        (holding_in replica.now) (E.caller exchange.new)) }
-    ensures gone { OnErr result (HasGone (E.caller exchange.old) node.part (holding_in replica.now)
-        (E.caller exchange.new)) }
-    ensures full { IfErr result (λ e. e ≡ BookFull → IsFull (E.caller exchange.new)) }
-{
-    let batch = shared_batch(rt.alloc(), replica, changed, target)?;
-    gate.before_post(node, replica.superstep());
-    exchange.post(rt, batch)?;
-    gate.after_post(node, replica.superstep());
-    Ok(())
-}
-
-// Tells every other partition of the superstep, where these are the rows that changed.
-fn tell_each<R: AllocGlobal + Wait, E: Exchange, G: Gate>(
-    rt: &R,
-    exchange: &mut E,
-    gate: &G,
-    node: NodeId,
-    replica: &Replica,
-    changed: &ChangedRows,
-) -> Result<(), NodeError>
-    requires caller { IsCaller (E.caller exchange.old) }
-    requires stands { StandsIn (E.caller exchange.old) node.part replica.now }
-    requires changed { AreChanged replica.now changed.now }
-    ensures seen { Extends (E.caller exchange.old) (E.caller exchange.new) }
-    ensures told { OnOk result (HasToldAll (E.caller exchange.old) replica.now.superstep node.part
-        (E.caller exchange.new)) }
-    ensures came { OnOk result (HasCome (E.caller exchange.old) node.part (holding_in replica.now)
-        (holding_in replica.now) (E.caller exchange.new)) }
-    ensures gone { OnErr result (HasGone (E.caller exchange.old) node.part (holding_in replica.now)
-        (E.caller exchange.new)) }
-    ensures full { IfErr result (λ e. e ≡ BookFull → IsFull (E.caller exchange.new)) }
-    ensures alone { (E.caller exchange.old).seen.job.plan.parts ≡ 1 → result ≢ Err BookFull }
-{
-    for target in 0..replica.plan().parts() {
-        if target != node.part {
-            tell(rt, exchange, gate, node, replica, changed, target)?;
-        }
-    }
-    Ok(())
-}
-
-// Tells every other partition of the superstep. The registers of the vertices that changed are copied once, into a
-// table that all batches share; a partition that is alone copies nothing.
-fn tell_all<R: AllocGlobal + Wait, E: Exchange, G: Gate>(
-    rt: &R,
-    exchange: &mut E,
-    gate: &G,
-    node: NodeId,
-    tables: &mut SharedTables,
-    replica: &Replica,
-) -> Result<(), NodeError>
-    requires caller { IsCaller (E.caller exchange.old) }
-    requires stands { StandsIn (E.caller exchange.old) node.part replica.now }
-    ensures seen { Extends (E.caller exchange.old) (E.caller exchange.new) }
-    ensures told { OnOk result (HasToldAll (E.caller exchange.old) replica.now.superstep node.part
-        (E.caller exchange.new)) }
-    ensures came { OnOk result (HasCome (E.caller exchange.old) node.part (holding_in replica.now)
-        (holding_in replica.now) (E.caller exchange.new)) }
-    ensures gone { OnErr result (HasGone (E.caller exchange.old) node.part (holding_in replica.now)
-        (E.caller exchange.new)) }
-    ensures full { IfErr result (λ e. e ≡ BookFull → IsFull (E.caller exchange.new)) }
-    ensures alone { (E.caller exchange.old).seen.job.plan.parts ≡ 1 → result ≢ Err BookFull }
-{
-    if replica.plan().parts() == 1 {
-        return Ok(());
-    }
-    let changed = tables.next(rt.alloc(), replica)?;
-    tell_each(rt, exchange, gate, node, replica, &changed)
-}
-
-// Where every superstep is kept, drops the batches that nobody needs any more.
-fn drop_old<R: Wait, E: Exchange>(
-    rt: &R,
-    exchange: &mut E,
-    every: u32,
-    superstep: u32,
-) -> Result<(), NodeError>
-    requires caller { IsCaller (E.caller exchange.old) }
-    ensures seen { Extends (E.caller exchange.old) (E.caller exchange.new) }
-    ensures came { (p : ℕ) (h : Holding) → superstep ≤ h.superstep →
-        HasCome (E.caller exchange.old) p h h (E.caller exchange.new) }
-    ensures full { IfErr result (λ e. e ≡ BookFull → IsFull (E.caller exchange.new)) }
-    ensures never { every ≡ 0 → result ≢ Err BookFull }
-    ensures unkept { every ≢ 1 → CalledNothing (E.caller exchange.old) (E.caller exchange.new) }
-    ensures dropped { OnOk result (DropsBefore (E.caller exchange.old) superstep
-        (E.caller exchange.new)) }
-{
-    if every != 1 || superstep < 2 {
-        return Ok(());
-    }
-    exchange.drop_below(rt, superstep - 1)?;
-    Ok(())
-}
-
-// Idle turns, until the history is no longer of that length, or nothing can come from the source any more, or there
-// were so many of them; and whether it is. (Who ends has posted before: so the length is looked at once more.)
-fn has_grown<E: Exchange, G: Gate>(
-    exchange: &mut E,
-    gate: &G,
-    node: NodeId,
-    source: u16,
-    before: u64,
-    patience: u32,
-) -> bool
-    requires caller { IsCaller (E.caller exchange.old) }
-    ensures seen { Extends (E.caller exchange.old) (E.caller exchange.new) }
-    ensures nothing { CalledNothing (E.caller exchange.old) (E.caller exchange.new) }
-{
-    for _ in 0..patience {
-        let may_come = gate.wait_for(node, source);
-        if exchange.length() != before {
-            return true;
-        }
-        if !may_come {
-            return false;
-        }
-    }
-    false
-}
-
-// Finds the batch of a source, and takes it; and whether it is there.
-fn find<R: Wait, E: Exchange>(
-    rt: &R,
-    exchange: &mut E,
-    node: NodeId,
-    replica: &mut Replica,
-    source: u16,
-) -> Result<bool, NodeError>
-    requires caller { IsCaller (E.caller exchange.old) }
-    requires stands { StandsIn (E.caller exchange.old) node.part replica.old }
-    ensures seen { Extends (E.caller exchange.old) (E.caller exchange.new) }
-    ensures stands { OnOk result (StandsIn (E.caller exchange.old) node.part replica.new) }
-    ensures superstep { replica.new.superstep ≡ replica.old.superstep }
-    ensures missed { IfOk result (λ found. found ≡ false →
-        WasMissing (E.caller exchange.old)
-        (batch_name replica.old.superstep source node.part) (E.caller exchange.new)) }
-    ensures came { OnOk result (HasCome (E.caller exchange.old) node.part (holding_in replica.old)
-        (holding_in replica.new) (E.caller exchange.new)) }
-    ensures gone { OnErr result (HasGone (E.caller exchange.old) node.part (holding_in replica.old)
-        (E.caller exchange.new)) }
-    ensures full { IfErr result (λ e. e ≡ BookFull → IsFull (E.caller exchange.new)) }
-{
-    let name = BatchName {
-        superstep: replica.superstep(),
-        source,
-        target: node.part,
-    };
-    let Some(batch) = exchange.fetch(rt, name)? else {
-        return Ok(false);
-    };
-    let _ = replica.take(batch);
-    Ok(true)
-}
-
-// Takes what the others tell of the superstep, until the level is held, or a further snapshot is found, or it was
-// waited for a batch in vain.
-fn hear_all<R: AllocGlobal + Wait, E: Exchange, G: Gate>(
-    rt: &R,
-    exchange: &mut E,
-    gate: &G,
-    node: NodeId,
-    patience: u32,
-    replica: &mut Replica,
-) -> Result<Found, NodeError>
-    requires caller { IsCaller (E.caller exchange.old) }
-    requires stands { StandsIn (E.caller exchange.old) node.part replica.old }
-    ensures seen { Extends (E.caller exchange.old) (E.caller exchange.new) }
-    ensures stands { OnOk result (StandsIn (E.caller exchange.old) node.part replica.new) }
-    ensures found { IfOk result (λ found. IsFound (E.caller exchange.old) node.part
-        replica.old.superstep replica.new found (E.caller exchange.new)) }
-    ensures came { OnOk result (HasCome (E.caller exchange.old) node.part (holding_in replica.old)
-        (holding_in replica.new) (E.caller exchange.new)) }
-    ensures gone { OnErr result (HasGone (E.caller exchange.old) node.part (holding_in replica.old)
-        (E.caller exchange.new)) }
-    ensures full { IfErr result (λ e. e ≡ BookFull → IsFull (E.caller exchange.new)) }
-    ensures alone { (E.caller exchange.old).seen.job.plan.parts ≡ 1 → result ≢ Err BookFull }
-{
-    for _ in rt.forever() {
-        let Some(source) = replica.missing() else {
-            return Ok(Found::Level);
+impl<'a, R: AllocGlobal + Threads + Wait + Sync, G: Gate + Watch> Worker<'a, R, G> {
+    /// Takes over the snapshot that is kept for the replica's partition, where its superstep is `at_least` so much; and
+    /// whether there is one.
+    pub fn catch_up<E: Exchange>(
+        &self,
+        exchange: &mut E,
+        at_least: u32,
+        replica: &mut Replica,
+    ) -> Result<bool, NodeError>
+        requires caller { IsCaller (E.caller exchange.old) }
+        requires stands { StandsIn (E.caller exchange.old) self.now.node.part replica.old }
+        ensures seen { Extends (E.caller exchange.old) (E.caller exchange.new) }
+        ensures stands { OnOk result (StandsIn (E.caller exchange.old) self.now.node.part
+            replica.new) }
+        ensures none { IfOk result (λ found. found ≡ false → replica.new ≡ replica.old) }
+        ensures found { IfOk result (λ found. found ≡ true →
+            HasRecalled (E.caller exchange.old) self.now.node.part at_least replica.old.superstep
+            replica.new.superstep (E.caller exchange.new)) }
+        ensures came { OnOk result (HasCome (E.caller exchange.old) self.now.node.part
+            (holding_in replica.old) (holding_in replica.new) (E.caller exchange.new)) }
+        ensures gone { OnErr result (HasGone (E.caller exchange.old) self.now.node.part
+            (holding_in replica.old) (E.caller exchange.new)) }
+        ensures full { IfErr result (λ e. e ≡ BookFull → IsFull (E.caller exchange.new)) }
+    {
+        let Some(snapshot) = exchange.recall(self.rt, self.node.part, at_least)? else {
+            return Ok(false);
         };
-        let length = exchange.length();
-        if find(rt, exchange, node, replica, source)? {
-            continue;
+        replica.limits();
+        snapshot.limits();
+        let Ok(()) = replica.merge(self.rt.alloc(), &snapshot) else {
+            return Err(NodeError::Memory);
+        };
+        Ok(true)
+    }
+
+    // Keeps a snapshot where its orders say so at this superstep.
+    fn keep_snapshot<E: Exchange>(
+        &self,
+        exchange: &mut E,
+        replica: &mut Replica,
+    ) -> Result<(), NodeError>
+        requires caller { IsCaller (E.caller exchange.old) }
+        requires stands { StandsIn (E.caller exchange.old) self.now.node.part replica.old }
+        ensures seen { Extends (E.caller exchange.old) (E.caller exchange.new) }
+        ensures same { replica.new ≡ replica.old }
+        ensures kept { is_kept_at self.now.orders.keep replica.old.superstep ≡ true → OnOk result (
+            HasKept (E.caller exchange.old) (holding_in replica.old) (E.caller exchange.new)) }
+        ensures unkept { is_kept_at self.now.orders.keep replica.old.superstep ≡ false →
+            CalledNothing (E.caller exchange.old) (E.caller exchange.new) }
+        ensures came { OnOk result (IsPath self.now.orders.keep (E.caller exchange.old)
+            self.now.node.part (holding_in replica.old) (holding_in replica.new)
+            (E.caller exchange.new)) }
+        ensures gone { OnErr result (HasGone (E.caller exchange.old) self.now.node.part
+            (holding_in replica.old) (E.caller exchange.new)) }
+        ensures full { IfErr result (λ e. e ≡ BookFull → IsFull (E.caller exchange.new)) }
+        ensures never { self.now.orders.keep ≡ 0 → result ≢ Err BookFull }
+    {
+        if !is_kept_at(self.orders.keep, replica.superstep()) {
+            return Ok(());
         }
-        if catch_up(rt, exchange, node, replica.superstep() + 1, replica)? {
-            return Ok(Found::Further);
+        let snapshot = shared_snapshot(self.rt.alloc(), replica)?;
+        exchange.keep(self.rt, snapshot)?;
+        Ok(())
+    }
+
+    // Tells one other partition of the superstep.
+    fn tell<E: Exchange>(
+        &self,
+        exchange: &mut E,
+        replica: &Replica,
+        changed: &ChangedRows,
+        target: u16,
+    ) -> Result<(), NodeError>
+        requires caller { IsCaller (E.caller exchange.old) }
+        requires stands { StandsIn (E.caller exchange.old) self.now.node.part replica.now }
+        requires target { target < (E.caller exchange.old).seen.job.plan.parts }
+        requires other { target ≢ self.now.node.part }
+        requires changed { AreChanged replica.now changed.now }
+        ensures seen { Extends (E.caller exchange.old) (E.caller exchange.new) }
+        ensures posted { OnOk result (HasPosted (E.caller exchange.old)
+            (batch_name replica.now.superstep self.now.node.part target) (E.caller exchange.new)) }
+        ensures came { OnOk result (HasCome (E.caller exchange.old) self.now.node.part
+            (holding_in replica.now) (holding_in replica.now) (E.caller exchange.new)) }
+        ensures gone { OnErr result (HasGone (E.caller exchange.old) self.now.node.part
+            (holding_in replica.now) (E.caller exchange.new)) }
+        ensures full { IfErr result (λ e. e ≡ BookFull → IsFull (E.caller exchange.new)) }
+    {
+        let batch = shared_batch(self.rt.alloc(), replica, changed, target)?;
+        self.gate.before_post(self.node, replica.superstep());
+        exchange.post(self.rt, batch)?;
+        self.gate.after_post(self.node, replica.superstep());
+        Ok(())
+    }
+
+    // Tells every other partition of the superstep, where these are the rows that changed.
+    fn tell_each<E: Exchange>(
+        &self,
+        exchange: &mut E,
+        replica: &Replica,
+        changed: &ChangedRows,
+    ) -> Result<(), NodeError>
+        requires caller { IsCaller (E.caller exchange.old) }
+        requires stands { StandsIn (E.caller exchange.old) self.now.node.part replica.now }
+        requires changed { AreChanged replica.now changed.now }
+        ensures seen { Extends (E.caller exchange.old) (E.caller exchange.new) }
+        ensures told { OnOk result (HasToldAll (E.caller exchange.old) replica.now.superstep
+            self.now.node.part (E.caller exchange.new)) }
+        ensures came { OnOk result (HasCome (E.caller exchange.old) self.now.node.part
+            (holding_in replica.now) (holding_in replica.now) (E.caller exchange.new)) }
+        ensures gone { OnErr result (HasGone (E.caller exchange.old) self.now.node.part
+            (holding_in replica.now) (E.caller exchange.new)) }
+        ensures full { IfErr result (λ e. e ≡ BookFull → IsFull (E.caller exchange.new)) }
+        ensures alone { (E.caller exchange.old).seen.job.plan.parts ≡ 1 → result ≢ Err BookFull }
+    {
+        for target in 0..replica.plan().parts() {
+            if target != self.node.part {
+                self.tell(exchange, replica, changed, target)?;
+            }
         }
-        if !has_grown(exchange, gate, node, source, length, patience) {
-            return Ok(Found::Missed { source });
+        Ok(())
+    }
+
+    // Tells every other partition of the superstep. The registers of the vertices that changed are copied once, into a
+    // table that all batches share; a partition that is alone copies nothing.
+    fn tell_all<E: Exchange>(
+        &self,
+        exchange: &mut E,
+        tables: &mut SharedTables,
+        replica: &Replica,
+    ) -> Result<(), NodeError>
+        requires caller { IsCaller (E.caller exchange.old) }
+        requires stands { StandsIn (E.caller exchange.old) self.now.node.part replica.now }
+        ensures seen { Extends (E.caller exchange.old) (E.caller exchange.new) }
+        ensures told { OnOk result (HasToldAll (E.caller exchange.old) replica.now.superstep
+            self.now.node.part (E.caller exchange.new)) }
+        ensures came { OnOk result (HasCome (E.caller exchange.old) self.now.node.part
+            (holding_in replica.now) (holding_in replica.now) (E.caller exchange.new)) }
+        ensures gone { OnErr result (HasGone (E.caller exchange.old) self.now.node.part
+            (holding_in replica.now) (E.caller exchange.new)) }
+        ensures full { IfErr result (λ e. e ≡ BookFull → IsFull (E.caller exchange.new)) }
+        ensures alone { (E.caller exchange.old).seen.job.plan.parts ≡ 1 → result ≢ Err BookFull }
+    {
+        if replica.plan().parts() == 1 {
+            return Ok(());
+        }
+        let changed = tables.next(self.rt.alloc(), replica)?;
+        self.tell_each(exchange, replica, &changed)
+    }
+
+    // Where every superstep is kept, drops the batches that nobody needs any more.
+    fn drop_old<E: Exchange>(&self, exchange: &mut E, superstep: u32) -> Result<(), NodeError>
+        requires caller { IsCaller (E.caller exchange.old) }
+        ensures seen { Extends (E.caller exchange.old) (E.caller exchange.new) }
+        ensures came { (p : ℕ) (h : Holding) → superstep ≤ h.superstep →
+            HasCome (E.caller exchange.old) p h h (E.caller exchange.new) }
+        ensures full { IfErr result (λ e. e ≡ BookFull → IsFull (E.caller exchange.new)) }
+        ensures never { self.now.orders.keep ≡ 0 → result ≢ Err BookFull }
+        ensures unkept { self.now.orders.keep ≢ 1 → CalledNothing (E.caller exchange.old)
+            (E.caller exchange.new) }
+        ensures dropped { OnOk result (DropsBefore (E.caller exchange.old) superstep
+            (E.caller exchange.new)) }
+    {
+        let every = self.orders.keep;
+        if every != 1 || superstep < 2 {
+            return Ok(());
+        }
+        exchange.drop_below(self.rt, superstep - 1)?;
+        Ok(())
+    }
+
+    // Idle turns, until the history is no longer of that length, or nothing can come from the source any more, or there
+    // were so many of them; and whether it is. (Who ends has posted before: so the length is looked at once more.)
+    fn has_grown<E: Exchange>(&self, exchange: &mut E, source: u16, before: u64) -> bool
+        requires caller { IsCaller (E.caller exchange.old) }
+        ensures seen { Extends (E.caller exchange.old) (E.caller exchange.new) }
+        ensures nothing { CalledNothing (E.caller exchange.old) (E.caller exchange.new) }
+    {
+        for _ in 0..self.orders.patience {
+            let may_come = self.gate.wait_for(self.node, source);
+            if exchange.length() != before {
+                return true;
+            }
+            if !may_come {
+                return false;
+            }
+        }
+        false
+    }
+
+    // Finds the batch of a source, and takes it; and whether it is there.
+    fn find<E: Exchange>(
+        &self,
+        exchange: &mut E,
+        replica: &mut Replica,
+        source: u16,
+    ) -> Result<bool, NodeError>
+        requires caller { IsCaller (E.caller exchange.old) }
+        requires stands { StandsIn (E.caller exchange.old) self.now.node.part replica.old }
+        ensures seen { Extends (E.caller exchange.old) (E.caller exchange.new) }
+        ensures stands { OnOk result (StandsIn (E.caller exchange.old) self.now.node.part
+            replica.new) }
+        ensures superstep { replica.new.superstep ≡ replica.old.superstep }
+        ensures missed { IfOk result (λ found. found ≡ false →
+            WasMissing (E.caller exchange.old)
+            (batch_name replica.old.superstep source self.now.node.part) (E.caller exchange.new)) }
+        ensures came { OnOk result (HasCome (E.caller exchange.old) self.now.node.part
+            (holding_in replica.old) (holding_in replica.new) (E.caller exchange.new)) }
+        ensures gone { OnErr result (HasGone (E.caller exchange.old) self.now.node.part
+            (holding_in replica.old) (E.caller exchange.new)) }
+        ensures full { IfErr result (λ e. e ≡ BookFull → IsFull (E.caller exchange.new)) }
+    {
+        let name = BatchName {
+            superstep: replica.superstep(),
+            source,
+            target: self.node.part,
+        };
+        let Some(batch) = exchange.fetch(self.rt, name)? else {
+            return Ok(false);
+        };
+        let _ = replica.take(batch);
+        Ok(true)
+    }
+
+    // Takes what the others tell of the superstep, until the level is held, or a further snapshot is found, or it was
+    // waited for a batch in vain.
+    fn hear_all<E: Exchange>(
+        &self,
+        exchange: &mut E,
+        replica: &mut Replica,
+    ) -> Result<Found, NodeError>
+        requires caller { IsCaller (E.caller exchange.old) }
+        requires stands { StandsIn (E.caller exchange.old) self.now.node.part replica.old }
+        ensures seen { Extends (E.caller exchange.old) (E.caller exchange.new) }
+        ensures stands { OnOk result (StandsIn (E.caller exchange.old) self.now.node.part
+            replica.new) }
+        ensures found { IfOk result (λ found. IsFound (E.caller exchange.old) self.now.node.part
+            replica.old.superstep replica.new found (E.caller exchange.new)) }
+        ensures came { OnOk result (HasCome (E.caller exchange.old) self.now.node.part
+            (holding_in replica.old) (holding_in replica.new) (E.caller exchange.new)) }
+        ensures gone { OnErr result (HasGone (E.caller exchange.old) self.now.node.part
+            (holding_in replica.old) (E.caller exchange.new)) }
+        ensures full { IfErr result (λ e. e ≡ BookFull → IsFull (E.caller exchange.new)) }
+        ensures alone { (E.caller exchange.old).seen.job.plan.parts ≡ 1 → result ≢ Err BookFull }
+    {
+        for _ in self.rt.forever() {
+            let Some(source) = replica.missing() else {
+                return Ok(Found::Level);
+            };
+            let length = exchange.length();
+            if self.find(exchange, replica, source)? {
+                continue;
+            }
+            if self.catch_up(exchange, replica.superstep() + 1, replica)? {
+                return Ok(Found::Further);
+            }
+            if !self.has_grown(exchange, source, length) {
+                return Ok(Found::Missed { source });
+            }
+        }
+        unreachable!()
+    }
+
+    // Goes on from a superstep whose level is held.
+    fn close(&self, replica: &mut Replica) -> SuperstepEnd
+        requires held { missing_in replica.old ≡ None }
+        ensures stands { (j : Job) (p t : ℕ) → StandsFor j p t replica.old →
+            StandsFor j p replica.new.superstep replica.new }
+        ensures held { (j : Job) (p t : ℕ) → StandsFor j p t replica.old →
+            holding_in replica.new ≡ held_after j (holding_in replica.old) Close }
+        ensures over { result ≡ superstep_end.Over → (replica.new ≡ replica.old)
+            × EndsRun (found_verdict replica.new) }
+        ensures kind { (result ≡ superstep_end.Next) ⊎ (result ≡ superstep_end.Over) }
+    {
+        replica.limits();
+        let vertices = replica.plan().part_size(replica.partition());
+        match replica.close_by(self.rt, self.threads) {
+            Ok(reached) => {
+                let changed = replica.changed_count();
+                self.gate.after_close(self.node, reached, changed, vertices);
+                SuperstepEnd::Next
+            }
+            Err(_) => SuperstepEnd::Over,
         }
     }
-    unreachable!()
-}
 
-// Goes on from a superstep whose level is held.
-fn close<R: Threads + Sync, V: Watch>(
-    rt: &R,
-    threads: usize,
-    watch: &V,
-    node: NodeId,
-    replica: &mut Replica,
-) -> SuperstepEnd
-    requires held { missing_in replica.old ≡ None }
-    ensures stands { (j : Job) (p t : ℕ) → StandsFor j p t replica.old →
-        StandsFor j p replica.new.superstep replica.new }
-    ensures held { (j : Job) (p t : ℕ) → StandsFor j p t replica.old →
-        holding_in replica.new ≡ held_after j (holding_in replica.old) Close }
-    ensures over { result ≡ superstep_end.Over → (replica.new ≡ replica.old)
-        × EndsRun (found_verdict replica.new) }
-    ensures kind { (result ≡ superstep_end.Next) ⊎ (result ≡ superstep_end.Over) }
-{
-    // the limits of a replica are told with its superstep
-    let _superstep = replica.superstep();
-    let vertices = replica.plan().part_size(replica.partition());
-    match replica.close_by(rt, threads) {
-        Ok(reached) => {
-            watch.after_close(node, reached, replica.changed_count(), vertices);
-            SuperstepEnd::Next
-        }
-        Err(_) => SuperstepEnd::Over,
-    }
-}
-
-/// A superstep of a node: it keeps what it has, tells all others, takes what they tell, and goes on.
-pub fn run_superstep<R: AllocGlobal + Threads + Wait + Sync, E: Exchange, G: Gate + Watch>(
-    rt: &R,
-    exchange: &mut E,
-    gate: &G,
-    node: NodeId,
-    orders: &NodeOrders,
-    threads: usize,
-    tables: &mut SharedTables,
-    replica: &mut Replica,
-) -> Result<SuperstepEnd, NodeError>
-    requires caller { IsCaller (E.caller exchange.old) }
-    requires stands { StandsIn (E.caller exchange.old) node.part replica.old }
-    ensures seen { Extends (E.caller exchange.old) (E.caller exchange.new) }
-    ensures stands { OnOk result (StandsIn (E.caller exchange.old) node.part replica.new) }
-    ensures end { IfOk result (λ end.
-        IsSuperstepEnd (E.caller exchange.old) node.part replica.new end (E.caller exchange.new)) }
-    ensures stays { IfOk result (λ end. end ≢ superstep_end.Next →
-        replica.new.superstep ≡ replica.old.superstep) }
-    ensures kept { OnOk result (KeptIfTold orders.now.keep (E.caller exchange.old)
-        replica.old.superstep (E.caller exchange.new)) }
-    ensures came { OnOk result (IsPath orders.now.keep (E.caller exchange.old) node.part
-        (holding_in replica.old) (holding_in replica.new) (E.caller exchange.new)) }
-    ensures gone { OnErr result (HasPath orders.now.keep (E.caller exchange.old) node.part
-        (holding_in replica.old) (E.caller exchange.new)) }
-    ensures full { IfErr result (λ e. e ≡ BookFull → IsFull (E.caller exchange.new)) }
-    ensures alone { (E.caller exchange.old).seen.job.plan.parts ≡ 1 → orders.now.keep ≡ 0 →
-        result ≢ Err BookFull }
-{
-    keep_snapshot(rt, exchange, node, orders.keep, replica)?;
-    tell_all(rt, exchange, gate, node, tables, replica)?;
-    drop_old(rt, exchange, orders.keep, replica.superstep())?;
-    Ok(
-        match hear_all(rt, exchange, gate, node, orders.patience, replica)? {
-            Found::Level => close(rt, threads, gate, node, replica),
+    /// A superstep of a node: it keeps what it has, tells all others, takes what they tell, and goes on.
+    pub fn run_superstep<E: Exchange>(
+        &self,
+        exchange: &mut E,
+        tables: &mut SharedTables,
+        replica: &mut Replica,
+    ) -> Result<SuperstepEnd, NodeError>
+        requires caller { IsCaller (E.caller exchange.old) }
+        requires stands { StandsIn (E.caller exchange.old) self.now.node.part replica.old }
+        ensures seen { Extends (E.caller exchange.old) (E.caller exchange.new) }
+        ensures stands { OnOk result (StandsIn (E.caller exchange.old) self.now.node.part
+            replica.new) }
+        ensures end { IfOk result (λ end. IsSuperstepEnd (E.caller exchange.old) self.now.node.part
+            replica.new end (E.caller exchange.new)) }
+        ensures stays { IfOk result (λ end. end ≢ superstep_end.Next →
+            replica.new.superstep ≡ replica.old.superstep) }
+        ensures kept { OnOk result (KeptIfTold self.now.orders.keep (E.caller exchange.old)
+            replica.old.superstep (E.caller exchange.new)) }
+        ensures came { OnOk result (IsPath self.now.orders.keep (E.caller exchange.old)
+            self.now.node.part (holding_in replica.old) (holding_in replica.new)
+            (E.caller exchange.new)) }
+        ensures gone { OnErr result (HasPath self.now.orders.keep (E.caller exchange.old)
+            self.now.node.part (holding_in replica.old) (E.caller exchange.new)) }
+        ensures full { IfErr result (λ e. e ≡ BookFull → IsFull (E.caller exchange.new)) }
+        ensures alone { (E.caller exchange.old).seen.job.plan.parts ≡ 1 → self.now.orders.keep ≡ 0 →
+            result ≢ Err BookFull }
+    {
+        self.keep_snapshot(exchange, replica)?;
+        self.tell_all(exchange, tables, replica)?;
+        self.drop_old(exchange, replica.superstep())?;
+        Ok(match self.hear_all(exchange, replica)? {
+            Found::Level => self.close(replica),
             Found::Further => SuperstepEnd::Next,
             Found::Missed { source } => SuperstepEnd::Starved { source },
-        },
-    )
+        })
+    }
 }

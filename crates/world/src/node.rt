@@ -76,8 +76,7 @@ impl Node {
             Turns j (taken_turn j (arc_value batch).name) result self.old self.new }
     {
         let taken = self.replica.take(batch);
-        // the limits of a replica are told with its superstep
-        let _superstep = self.replica.superstep();
+        self.replica.limits();
         answer_to_take(taken)
     }
 
@@ -86,8 +85,7 @@ impl Node {
         ensures { (j : Job) → Turns j (closed_turn j) result self.old self.new }
     {
         let closed = self.replica.close();
-        // the limits of a replica are told with its superstep
-        let _superstep = self.replica.superstep();
+        self.replica.limits();
         answer_to_close(closed)
     }
 
@@ -166,14 +164,20 @@ impl Node {
     }
 }
 
+// Does nothing. Its contract says that what a replica has can be kept, for proofs.
+fn keepable(replica: &Replica)
+    ensures { IsKeepable replica.now }
+{
+    replica.limits();
+    let _figures = replica.tallies();
+}
+
 // The checkpoint of a replica. The error is that memory was refused.
 fn checkpoint_of(alloc: Global, replica: &Replica) -> Result<Vec<u8>, AllocError>
     ensures bytes { IfOk result (λ bytes. bytes.items ≡ checkpoint_bytes replica.now) }
     ensures keepable { IfOk result (λ bytes. IsCheckpoint replica.now.part bytes.items) }
 {
-    // the limits of a replica are told with its superstep, those of its figures with these
-    let _superstep = replica.superstep();
-    let _tallies = replica.tallies();
+    keepable(replica);
     let room = checkpoint_length(replica) as usize;
     let mut writer = MemWriter::with_room(alloc, room, None)?;
     // there is room for all of it, and no call is to fail
@@ -191,8 +195,7 @@ fn started(alloc: Global, part: Arc<Part>) -> Result<Replica, AllocError>
         ShowsNode j (start_node j.plan p) (record { replica = r; kept = None })) }
 {
     let replica = Replica::new(alloc, part)?;
-    // the limits of a replica are told with its superstep
-    let _superstep = replica.superstep();
+    replica.limits();
     Ok(replica)
 }
 

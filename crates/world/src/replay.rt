@@ -11,7 +11,7 @@ ghost use Rattle.world.specs.Replay.{RefusesCommands, RefusesStart, replay_job, 
 use crate::World;
 use crate::bytes::Bytes;
 use crate::script::{first_fault, read_script};
-use crate::tell::{TellError, tell_events};
+use crate::tell::TellError;
 use ball_model::plan::MOST_REPLICAS;
 use ball_model::world::Event;
 use ball_model::{CountedWrite, Estimate, PlanError};
@@ -162,26 +162,34 @@ fn begin(
     Ok((events, world))
 }
 
-// The events of a script, and the world of an edge list at its start.
-fn prepare<V: Watch>(
-    alloc: Global,
-    state: RandomState,
-    edges: &[u8],
-    counted: Option<&[u8]>,
-    script: &[u8],
-    options: &ReplayOptions,
-    watch: &V,
-) -> Result<(Vec<Event>, World), ReplayError>
-    ensures ok { IfOk result (λ both. IsReady (replay_of options.now) edges.now
-        (list_in counted.entry) script.now both.0.items both.1) }
-    ensures refused { IfErr result
-        (IsEarly (replay_of options.now) edges.now (list_in counted.entry) script.now) }
-{
-    check_commands(script, options)?;
-    let job = options.job();
-    let read = job.read_network(alloc, state, &mut Bytes::new(edges), counted)?;
-    watch.after_read(read.records, read.graph.vertices());
-    begin(alloc, &read.graph, script, options)
+/// A replay that is watched: where its memory is from, what is asked of it, and who watches.
+#[derive(Clone, Copy)]
+pub(crate) struct WatchedReplay<'a, V> {
+    pub(crate) alloc: Global,
+    options: &'a ReplayOptions,
+    pub(crate) watch: &'a V,
+}
+
+impl<'a, V: Watch> WatchedReplay<'a, V> {
+    // The events of a script, and the world of an edge list at its start.
+    fn prepare(
+        &self,
+        state: RandomState,
+        edges: &[u8],
+        counted: Option<&[u8]>,
+        script: &[u8],
+    ) -> Result<(Vec<Event>, World), ReplayError>
+        ensures ok { IfOk result (λ both. IsReady (replay_of self.now.options.now) edges.now
+            (list_in counted.entry) script.now both.0.items both.1) }
+        ensures refused { IfErr result (IsEarly (replay_of self.now.options.now) edges.now
+            (list_in counted.entry) script.now) }
+    {
+        check_commands(script, self.options)?;
+        let job = self.options.job();
+        let read = job.read_network(self.alloc, state, &mut Bytes::new(edges), counted)?;
+        self.watch.after_read(read.records, read.graph.vertices());
+        begin(self.alloc, &read.graph, script, self.options)
+    }
 }
 
 /// Reads an edge list, makes the world of its job, and writes what the events of a script answer.
@@ -200,6 +208,8 @@ fn prepare<V: Watch>(
 ///
 /// Memory is the graph, a replica for each node, 32 bytes a command, and what the events keep: the bytes of each
 /// message, a replica's rows for each copy and checkpoint, and the longest line of the answers.
+///
+/// For a library's user: the program calls [`replay_watched`].
 pub fn replay<W: CountedWrite>(
     alloc: Global,
     state: RandomState,
@@ -227,8 +237,8 @@ pub fn replay<W: CountedWrite>(
     )
 }
 
-/// The same, with a watch that is called once the edge list is read, before there is a plan, and after each close that
-/// went on. The answers and the errors are those of [`replay`].
+/// Replays a script as [`replay`] says, with a watch that is called once the edge list is read, before there is a plan,
+/// and after each close that went on.
 pub fn replay_watched<W: CountedWrite, V: Watch>(
     alloc: Global,
     state: RandomState,
@@ -252,7 +262,12 @@ pub fn replay_watched<W: CountedWrite, V: Watch>(
         (list_in counted.entry) script.now (W.contents writer.old) (W.contents writer.new)
         (W.failed_calls writer.old) (W.failed_calls writer.new)) }
 {
-    let (events, mut world) = prepare(alloc, state, edges, counted, script, options, watch)?;
-    tell_events(alloc, &mut world, &events, watch, writer)?;
+    let replay = WatchedReplay {
+        alloc,
+        options,
+        watch,
+    };
+    let (events, mut world) = replay.prepare(state, edges, counted, script)?;
+    replay.tell_events(&mut world, &events, writer)?;
     Ok(())
 }

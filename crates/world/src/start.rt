@@ -1,36 +1,24 @@
 //! What a world begins with.
 
-ghost use Rattle.std.specs.Prelude.{◌≡◌, ◌<◌, IfOk, map};
-ghost use Rattle.ball_model.specs.Job.{IsJob, job_of};
-ghost use Rattle.edgelist.specs.Feeding.{feeds_of};
+ghost use Rattle.std.specs.Prelude.{◌≡◌, ◌<◌, ℕ, IfOk, map};
+ghost use Rattle.ball_model.specs.Job.{IsJob, Job, job_of, part_of};
 ghost use Rattle.world.specs.Shows.{AreStart, AreFirstNodes};
 
 use crate::node::Node;
 use ball_model::Plan;
-use edgelist::{Feeds, Graph};
+use edgelist::{Graph, Part};
 use std::alloc::{AllocError, Global};
 use std::sync::Arc;
 
-/// So many nodes of partition `p` at superstep 0. They share their part, which is made by the masks of all vertices.
-pub fn start_nodes(
-    alloc: Global,
-    graph: &Graph,
-    plan: &Plan,
-    p: u16,
-    replicas: u8,
-    feeds: &Feeds,
-) -> Result<Vec<Node>, AllocError>
-    requires job { IsJob (job_of graph.now.graph plan.now) }
-    requires below { p < plan.now.parts }
-    requires feeds { feeds.now ≡ feeds_of graph.now.graph plan.now.parts }
-    ensures { IfOk result (λ nodes.
-        AreStart (job_of graph.now.graph plan.now) p replicas nodes.items) }
+/// So many nodes of a part at superstep 0, which share it.
+pub fn start_nodes(alloc: Global, part: Part, replicas: u8) -> Result<Vec<Node>, AllocError>
+    ensures { (j : Job) (p : ℕ) → IsJob j → p < j.plan.parts → part ≡ part_of j p →
+        IfOk result (λ nodes. AreStart j p replicas nodes.items) }
 {
-    let part = graph.part_with(alloc, plan, p, feeds)?;
-    let part = Arc::new(alloc, part)?;
+    let shared = Arc::new(alloc, part)?;
     let mut nodes = Vec::with_capacity(alloc, usize::from(replicas))?;
     for _ in 0..replicas {
-        let own = Arc::try_clone(&part)?;
+        let own = Arc::try_clone(&shared)?;
         let node = Node::start(alloc, own)?;
         nodes.push(node)?;
     }
@@ -51,7 +39,8 @@ pub fn start_all(
     let feeds = graph.feeds(alloc, plan)?;
     let mut rows = Vec::with_capacity(alloc, usize::from(plan.parts()))?;
     for p in 0..plan.parts() {
-        let nodes = start_nodes(alloc, graph, plan, p, replicas, &feeds)?;
+        let part = graph.part_with(alloc, plan, p, &feeds)?;
+        let nodes = start_nodes(alloc, part, replicas)?;
         rows.push(nodes)?;
     }
     Ok(rows)

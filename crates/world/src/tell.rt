@@ -17,11 +17,12 @@ ghost use Rattle.world.specs.Tell.{Tells, is_shown};
 
 use crate::World;
 use crate::answer::{put_answer, put_node, put_refusal, put_vertex};
+use crate::replay::WatchedReplay;
 use ball_model::world::{Answer, Event, WorldError};
 use ball_model::{CountedWrite, NodeId, put_all};
 use edgelist::Watch;
 use replica::{Replica, Shown};
-use std::alloc::{AllocError, Global};
+use std::alloc::AllocError;
 
 /// Why not all answers are written.
 #[derive(Clone, Copy, Debug, PartialEq, Eq)]
@@ -61,8 +62,7 @@ pub fn own_vertex(replica: &Replica, i: u32) -> u32
     ensures vertex { result < replica.now.part.plan.vertices }
     ensures own { result % replica.now.part.plan.parts ≡ replica.now.part.number }
 {
-    // the limits of a replica are told with its superstep
-    let _superstep = replica.superstep();
+    replica.limits();
     let parts = u32::from(replica.plan().parts());
     i * parts + u32::from(replica.partition())
 }
@@ -94,8 +94,7 @@ fn tell_vertices<W: CountedWrite>(
         Tells W.contents W.failed_calls writer.old writer.new
         (flat_map (row_text j h.superstep) (own_vertices j h.partition)) result }
 {
-    // the limits of a replica are told with its superstep
-    let _superstep = replica.superstep();
+    replica.limits();
     let partition = replica.partition();
     for i in 0..replica.plan().part_size(partition) {
         tell_vertex(replica, own_vertex(replica, i), line, writer)?;
@@ -215,53 +214,52 @@ fn show_close<V: Watch>(
     if let Ok(Answer::Closed { superstep }) = outcome
         && let Some(replica) = world.node(node)
     {
-        // the limits of a replica are told with its superstep
-        let _superstep = replica.superstep();
+        replica.limits();
         let vertices = replica.plan().part_size(replica.partition());
         watch.after_close(node, superstep, replica.changed_count(), vertices);
     }
 }
 
-// An event happens, and its answer is told.
-fn tell_event<W: CountedWrite, V: Watch>(
-    alloc: Global,
-    world: &mut World,
-    event: Event,
-    watch: &V,
-    line: &mut Vec<u8>,
-    writer: &mut W,
-) -> Result<(), TellError>
-    ensures told { (j : Job) (w : Defined) → Shows j w world.old →
-        Tells W.contents W.failed_calls writer.old writer.new (event_text j w event) result }
-    ensures shows { (j : Job) (w : Defined) → Shows j w world.old →
-        OnOk result (Shows j (after_event j w event) world.new) }
-{
-    let outcome = world.apply(alloc, event);
-    if is_want(outcome) {
-        return Err(TellError::Memory);
+impl<'a, V: Watch> WatchedReplay<'a, V> {
+    // An event happens, and its answer is told.
+    fn tell_event<W: CountedWrite>(
+        &self,
+        world: &mut World,
+        event: Event,
+        line: &mut Vec<u8>,
+        writer: &mut W,
+    ) -> Result<(), TellError>
+        ensures told { (j : Job) (w : Defined) → Shows j w world.old →
+            Tells W.contents W.failed_calls writer.old writer.new (event_text j w event) result }
+        ensures shows { (j : Job) (w : Defined) → Shows j w world.old →
+            OnOk result (Shows j (after_event j w event) world.new) }
+    {
+        let outcome = world.apply(self.alloc, event);
+        if is_want(outcome) {
+            return Err(TellError::Memory);
+        }
+        show_close(world, event, outcome, self.watch);
+        if is_shown(outcome) {
+            return tell_node(world, node_of(event), line, writer);
+        }
+        tell_outcome(outcome, line, writer)
     }
-    show_close(world, event, outcome, watch);
-    if is_shown(outcome) {
-        return tell_node(world, node_of(event), line, writer);
-    }
-    tell_outcome(outcome, line, writer)
-}
 
-/// Events happen one after the other, and the answer of each is told. A watch is called where a node goes on.
-pub(crate) fn tell_events<W: CountedWrite, V: Watch>(
-    alloc: Global,
-    world: &mut World,
-    events: &[Event],
-    watch: &V,
-    writer: &mut W,
-) -> Result<(), TellError>
-    ensures { (j : Job) (w : Defined) → Shows j w world.old →
-        Tells W.contents W.failed_calls writer.old writer.new
-        (events_text j w events.now) result }
-{
-    let mut line = Vec::new(alloc);
-    for event in events {
-        tell_event(alloc, world, *event, watch, &mut line, writer)?;
+    /// Events happen one after the other, and the answer of each is told. A watch is called where a node goes on.
+    pub(crate) fn tell_events<W: CountedWrite>(
+        &self,
+        world: &mut World,
+        events: &[Event],
+        writer: &mut W,
+    ) -> Result<(), TellError>
+        ensures { (j : Job) (w : Defined) → Shows j w world.old →
+            Tells W.contents W.failed_calls writer.old writer.new
+            (events_text j w events.now) result }
+    {
+        let mut line = Vec::new(self.alloc);
+        for event in events {
+            self.tell_event(world, *event, &mut line, writer)?;
+        }
+        Ok(())
     }
-    Ok(())
 }

@@ -3,7 +3,11 @@
 
 use super::counting::counts;
 use super::parts::part_by_feeds;
+use super::rounds::job_by;
 use super::*;
+use crate::Unwatched;
+use std::alloc::AllocGlobal;
+use std::thread::Threads;
 
 // Whether both of two calls read the two edges, or just one was refused for want of memory.
 fn are_answered(first: Told, second: Told) -> bool {
@@ -19,6 +23,21 @@ fn are_answered(first: Told, second: Told) -> bool {
 // What is told of the two edges.
 fn told_there(rt: &HostRuntime) -> Told {
     told(rt, at_once(TWO_EDGES), Delimiter::Tab, NO_LIMITS)
+}
+
+// What is told of the two edges where three threads read them.
+fn told_by_three<R: AllocGlobal + Threads + Sync>(rt: &R, state: RandomState) -> Told {
+    let mut reader = CountingReader::new(at_once(TWO_EDGES));
+    match job_by(3).read_network_by(rt, &Unwatched, state, &mut reader, None) {
+        Ok(read) => Ok(shown(&read.graph)),
+        Err(NetworkError::Edges(fault)) => Err(fault),
+        Err(NetworkError::Counted(_)) => Err(EdgeError::Read),
+    }
+}
+
+// Whether three threads answer the two edges.
+fn three_answer<R: AllocGlobal + Threads + Sync>(rt: &R, state: RandomState) -> bool {
+    are_answered(told_by_three(rt, state), told_by_three(rt, state))
 }
 
 // Whether a list of just the last vertex is answered: at once, or after a refusal that left all counted.
@@ -61,5 +80,8 @@ fn all_is_answered(rt: &HostRuntime) -> bool {
 
 #[test]
 fn calls_where_memory_is_refused(rt: HostRuntime) {
-    assert!(rt; all_is_answered(&rt));
+    let Ok(state) = RandomState::new(&rt) else {
+        return;
+    };
+    assert!(rt; all_is_answered(&rt) && three_answer(&rt, state));
 }

@@ -41,8 +41,9 @@ fn calls_where_memory_is_refused(rt: HostRuntime) {
     let answered = [
         are_answered(are_built(alloc), are_built(alloc)),
         are_answered(are_read_back(alloc), are_read_back(alloc)),
+        are_answered(are_joined(alloc), are_joined(alloc)),
         are_answered(far_are_kept(alloc), far_are_kept(alloc)),
         are_answered(come_back(alloc, &[1, u64::MAX]), come_back(alloc, &[7])),
     ];
-    assert_eq!(rt; answered, [true; 4]);
+    assert_eq!(rt; answered, [true; 5]);
 }

@@ -1,24 +1,16 @@
 //! The command `hyperball gather`: its words, and the report of the checkpoints of all partitions.
 
-ghost use Rattle.std.specs.Prelude.{◌≡◌, Bool, IfOk, codes};
+ghost use Rattle.std.specs.Prelude.{◌≡◌, Bool, IfErr, IfOk, OnOk, codes};
 ghost use Rattle.clap.specs.Words.{found_of, rows_of};
 ghost use Rattle.hyperball.specs.CommandLine.{IsApp, gather_app};
+ghost use Rattle.hyperball.specs.Ends.{DoesGather, FailsGather};
 ghost use Rattle.hyperball.specs.Nodes.{AreGatherOptionsOf};
+ghost use Rattle.hyperball.specs.Streams.{reads_of, writes_of};
 ghost use Rattle.hyperball.specs.Words.{IsFlag};
-ghost use Rattle.hyperball.specs.declared.cli.gather.GatherWords.{GatherWords as Gathered};
-ghost use Rattle.std.specs.Prelude.{◌≢◌, Err, OnErr, OnOk};
-ghost use Rattle.std.specs.Io.KnownBytes.{Keeps};
-ghost use Rattle.ball_model.specs.Streams.{RisesByOne};
-ghost use Rattle.hyperball.specs.Faults.{told_of_gathering};
-ghost use Rattle.node.specs.Gathering.{GathersJob};
-ghost use Rattle.edgelist.specs.Job.{settings_of};
-ghost use Rattle.node.specs.NoReport.{HasNoReport, IsUnwritten, WritesFrontOfJob};
-ghost use Rattle.node.specs.declared.error.GatherError.{GatherError as NoReport};
-ghost use Rattle.node.specs.declared.error.JobInputError.TheVariants as no_job;
 
+use crate::cli::Server;
 use crate::cli::arguments::{Texts, large, progress, subcommand_of, threads};
-use crate::cli::job::{job_arguments, job_input_of, wants_large, wants_progress};
-use crate::options::USUAL;
+use crate::cli::job::{USUAL, job_arguments, job_input_of, wants_large, wants_progress};
 use crate::progress::{Teller, TellingWatch};
 use ball_model::{CountedRead, CountedWrite};
 use clap::builder::ValueParser;
@@ -28,9 +20,7 @@ use node::gather::gather;
 use node::job::JobInput;
 use std::alloc::{AllocError, AllocGlobal, Global};
 use std::hash::RandomState;
-use std::random::RandomSource;
 use std::thread::Threads;
-use thiserror::Error;
 
 const GATHER_ABOUT: &str =
     "Writes the report of a job from the checkpoints that its nodes gave at the end";
@@ -102,7 +92,7 @@ pub fn gather_command<'a>(
 
 /// What the words of a gathering say. Values are as `clap` has checked them.
 pub fn gather_words_of(matches: &ArgMatches<'_>) -> GatherWords
-    ensures options { (w : Gathered) → AreGatherOptionsOf (rows_of (found_of matches.now)) w →
+    ensures options { (w : GatherWords) → AreGatherOptionsOf (rows_of (found_of matches.now)) w →
         result ≡ w }
     ensures progress { (b : Bool) → IsFlag (rows_of (found_of matches.now)) (codes "progress") b →
         result.progress ≡ b }
@@ -114,81 +104,25 @@ pub fn gather_words_of(matches: &ArgMatches<'_>) -> GatherWords
     }
 }
 
-/// Why no report is gathered, or not all of it, in the order of the checks.
-#[derive(Clone, Copy, Debug, Error)]
-pub enum GatherFault {
-    /// There are no random words to hash labels by.
-    #[error("the system gives no random words")]
-    Random,
-    /// The report is not gathered.
-    #[error(transparent)]
-    Gather(GatherError),
-}
-
-// What the end of a gathering is told as. It takes no memory.
-fn told_of_gathering(gathered: Result<(), GatherError>) -> Result<(), GatherFault>
-    ensures { result ≡ told_of_gathering gathered }
-{
-    match gathered {
-        Ok(()) => Ok(()),
-        Err(fault) => Err(GatherFault::Gather(fault)),
-    }
-}
-
 /// The report of the checkpoints in the input, of all partitions of a job. Where there is a teller, it tells how the
-/// gathering gets on. Without random words nothing is read, and nothing written.
-pub fn gather_by<
-    H: AllocGlobal + RandomSource + Threads + Sync,
-    T: Teller,
-    R: CountedRead,
-    W: CountedWrite,
->(
-    rt: &H,
+/// gathering gets on.
+pub fn gather_by<H: AllocGlobal + Threads + Sync, T: Teller, R: CountedRead, W: CountedWrite>(
+    server: &Server<'_, H, T>,
+    state: RandomState,
     words: &GatherWords,
-    teller: &Option<T>,
     reader: &mut R,
     writer: &mut W,
-) -> Result<(), GatherFault>
-    ensures gathered { OnOk result (GathersJob
-        (settings_of words.now.job.options) words.now.job.counted
-        (R.remaining reader.old) (R.remaining reader.new)
-        (W.contents writer.old) (W.contents writer.new)) }
-    // Which refusal it is.
-    ensures refused { (e : NoReport) → result ≡ Err (GatherFault.Gather e) → HasNoReport
-        (settings_of words.now.job.options) words.now.job.counted
-        (R.remaining reader.old) (R.remaining reader.new) e }
-    // A call failed exactly where that is told.
-    ensures read { result ≡ Err (GatherFault.Gather GatherError.Read) →
-        RisesByOne (R.failed_calls reader.old) (R.failed_calls reader.new) }
-    ensures read_job { result ≡ Err (GatherFault.Gather (GatherError.Job no_job.Read)) →
-        RisesByOne (R.failed_calls reader.old) (R.failed_calls reader.new) }
-    ensures counted { result ≢ Err (GatherFault.Gather GatherError.Read) →
-        result ≢ Err (GatherFault.Gather (GatherError.Job no_job.Read)) →
-        R.failed_calls reader.new ≡ R.failed_calls reader.old }
-    ensures write { result ≡ Err (GatherFault.Gather GatherError.Write) →
-        RisesByOne (W.failed_calls writer.old) (W.failed_calls writer.new) }
-    ensures written { result ≢ Err (GatherFault.Gather GatherError.Write) →
-        W.failed_calls writer.new ≡ W.failed_calls writer.old }
-    // Nothing was written, or a beginning of the report where memory was refused or a write failed.
-    ensures kept { (e : NoReport) → result ≡ Err (GatherFault.Gather e) → IsUnwritten e →
-        Keeps (W.contents writer.old) (W.contents writer.new) }
-    ensures front { OnErr result (
-        WritesFrontOfJob (settings_of words.now.job.options) words.now.job.counted
-        (R.remaining reader.old) (R.remaining reader.new)
-        (W.contents writer.old) (W.contents writer.new)) }
-    ensures random { result ≡ Err GatherFault.Random →
-        Keeps (W.contents writer.old) (W.contents writer.new) }
-    ensures unread { result ≡ Err GatherFault.Random →
-        Keeps (R.remaining reader.old) (R.remaining reader.new) }
+) -> Result<(), GatherError>
+    ensures done { OnOk result (DoesGather words.now
+        (reads_of R.remaining R.failed_calls R.sure_calls reader.old reader.new)
+        (writes_of W.contents W.failed_calls writer.old writer.new)) }
+    ensures fault { IfErr result (FailsGather words.now
+        (reads_of R.remaining R.failed_calls R.sure_calls reader.old reader.new)
+        (writes_of W.contents W.failed_calls writer.old writer.new)) }
 {
-    let Ok(state) = RandomState::new(rt) else {
-        return Err(GatherFault::Random);
-    };
-    let watch = TellingWatch::new(teller);
+    let watch = TellingWatch::new(server.teller);
     watch.before_read(&words.job.options);
-    let gathered = gather(rt, state, &words.job, &watch, reader, writer);
-    if gathered.is_ok() {
-        watch.after_gathering();
-    }
-    told_of_gathering(gathered)
+    gather(server.rt, state, &words.job, &watch, reader, writer)?;
+    watch.after_gathering();
+    Ok(())
 }

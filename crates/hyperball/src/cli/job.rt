@@ -1,24 +1,14 @@
 //! The words of a job, which all commands share.
 
-ghost use Rattle.std.specs.Prelude.{◌≡◌};
+ghost use Rattle.std.specs.Prelude.{◌≡◌, Bool, MatchOption, codes, option_map};
 ghost use Rattle.clap.specs.Words.{App, found_of, rows_of};
+ghost use Rattle.hyperball.specs.CommandLine.{TakesNames, delimiter_names, estimate_names};
 ghost use Rattle.hyperball.specs.CommandLine.{with_arguments, with_job};
-ghost use Rattle.hyperball.specs.Nodes.{AreJobOptionsOf};
-ghost use Rattle.node.specs.declared.job.JobInput.{JobInput as Wanted};
-ghost use Rattle.std.specs.Prelude.{MatchOption};
-ghost use Rattle.std.specs.Prelude.{Bool, codes, option_map};
-ghost use Rattle.hyperball.specs.CommandLine.{TakesNames};
-ghost use Rattle.hyperball.specs.CommandLine.{delimiter_names, estimate_names};
-ghost use Rattle.hyperball.specs.Words.{IsFlag};
-ghost use Rattle.hyperball.specs.Words.{delimiter_name, estimate_name};
-ghost use Rattle.ball_model.specs.declared.plan.Estimate.{Estimate as Made};
-ghost use Rattle.ball_model.specs.declared.plan.Estimate.TheVariants.{Raw};
-ghost use Rattle.edgelist.specs.declared.read.Delimiter.{Delimiter as Between};
-ghost use Rattle.edgelist.specs.declared.read.Delimiter.TheVariants.{Tab};
+ghost use Rattle.hyperball.specs.Words.{AreJobOptionsOf, IsFlag, delimiter_name, estimate_name};
 
 use crate::cli::arguments::{Argument, flag, option};
-use crate::options::USUAL;
 use ball_model::Estimate;
+use ball_model::plan::GREATEST_LIMIT;
 use clap::builder::ValueParser;
 use clap::{ArgMatches, value_parser};
 use edgelist::{Delimiter, JobOptions};
@@ -48,6 +38,19 @@ const COUNTED_HELP: &str =
 
 /// The help of `--parts`, where it is no hint on how many cores a run takes.
 pub const PARTS_HELP: &str = "Partitions that vertices are dealt out to, 1 to 64 [default: 1]";
+
+/// The options that are not given: counters of 256 bytes, seed 0, one partition, the greatest limit, raw estimates, tabs, and
+/// as many threads as there are processors.
+pub const USUAL: JobOptions = JobOptions {
+    log2m: 8,
+    seed: 0,
+    parts: 1,
+    limit: GREATEST_LIMIT,
+    estimate: Estimate::Raw,
+    delimiter: Delimiter::Tab,
+    large: false,
+    threads: 0,
+};
 
 /// One of the names of the ways to make estimates.
 pub fn estimates<'a>() -> ValueParser<'a>
@@ -85,8 +88,8 @@ pub fn job_arguments<'a>(
 
 /// The delimiter of that name; where none is given it is the usual one.
 pub fn delimiter_of(name: Option<&str>) -> Delimiter
-    ensures { (d : Between) → MatchOption (option_map (λ name. name.now) name.entry)
-        (d ≡ Tab) (λ name. name ≡ delimiter_name d) → result ≡ d }
+    ensures { (d : Delimiter) → MatchOption (option_map (λ name. name.now) name.entry)
+        (d ≡ Delimiter.Tab) (λ name. name ≡ delimiter_name d) → result ≡ d }
 {
     match name {
         Some("comma") => Delimiter::Comma,
@@ -97,8 +100,8 @@ pub fn delimiter_of(name: Option<&str>) -> Delimiter
 
 /// The way to make estimates of that name; where none is given it is the usual one.
 pub fn estimate_of(name: Option<&str>) -> Estimate
-    ensures { (e : Made) → MatchOption (option_map (λ name. name.now) name.entry)
-        (e ≡ Raw) (λ name. name ≡ estimate_name e) → result ≡ e }
+    ensures { (e : Estimate) → MatchOption (option_map (λ name. name.now) name.entry)
+        (e ≡ Estimate.Raw) (λ name. name ≡ estimate_name e) → result ≡ e }
 {
     match name {
         Some("corrected") => Estimate::Corrected,
@@ -109,7 +112,7 @@ pub fn estimate_of(name: Option<&str>) -> Estimate
 /// What words ask of a job, over a large edge list or a usual one, by so many threads. Values are as `clap` has checked
 /// them.
 pub fn job_input_of(matches: &ArgMatches<'_>, large: bool, threads: u16) -> JobInput
-    ensures { (job : Wanted) → AreJobOptionsOf (rows_of (found_of matches.now)) job →
+    ensures { (job : JobInput) → AreJobOptionsOf (rows_of (found_of matches.now)) job →
         large ≡ job.options.large → threads ≡ job.options.threads → result ≡ job }
 {
     let options = JobOptions {

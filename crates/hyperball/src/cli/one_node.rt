@@ -1,24 +1,15 @@
 //! The command `hyperball node`: its words, and one partition's node that answers commands. (No module may be named as the
 //! crate `node`.)
 
-ghost use Rattle.std.specs.Prelude.{◌≡◌, Bool, IfOk, codes};
+ghost use Rattle.std.specs.Prelude.{◌≡◌, Bool, IfErr, IfOk, OnOk, codes};
 ghost use Rattle.clap.specs.Words.{found_of, rows_of};
 ghost use Rattle.hyperball.specs.CommandLine.{IsApp, node_app};
+ghost use Rattle.hyperball.specs.Ends.{DoesNode, FailsNode};
 ghost use Rattle.hyperball.specs.Nodes.{AreNodeOptionsOf};
+ghost use Rattle.hyperball.specs.Streams.{reads_of, writes_of};
 ghost use Rattle.hyperball.specs.Words.{IsFlag};
-ghost use Rattle.hyperball.specs.declared.cli.one_node.NodeWords.{NodeWords as Noded};
-ghost use Rattle.std.specs.Prelude.{◌≢◌, Err, OnOk};
-ghost use Rattle.std.specs.Io.KnownBytes.{Keeps};
-ghost use Rattle.ball_model.specs.Streams.{RisesByOne};
-ghost use Rattle.hyperball.specs.Faults.{told_of_node};
-ghost use Rattle.edgelist.specs.Job.{settings_of};
-ghost use Rattle.node.specs.NoJob.{HasNoNode};
-ghost use Rattle.node.specs.Serving.{IsOfMachine, ServesNode, StopsNode, WantsNode};
-ghost use Rattle.node.specs.declared.error.JobInputError.{JobInputError as NoJob};
-ghost use Rattle.node.specs.declared.error.JobInputError.TheVariants as no_job;
-ghost use Rattle.node.specs.declared.error.ServeError.{ServeError as NoAnswer};
-ghost use Rattle.node.specs.declared.error.ServeError.TheVariants as no_answer;
 
+use crate::cli::Server;
 use crate::cli::arguments::{Texts, large, option, progress, subcommand_of};
 use crate::cli::job::{job_arguments, job_input_of, wants_large, wants_progress};
 use crate::progress::{Teller, TellingWatch};
@@ -30,8 +21,6 @@ use node::job::JobInput;
 use node::serve::serve_node;
 use std::alloc::{AllocError, AllocGlobal, Global};
 use std::hash::RandomState;
-use std::random::RandomSource;
-use thiserror::Error;
 
 const NODE_ABOUT: &str =
     "Is one partition's node of a job that several machines share, and answers commands";
@@ -124,7 +113,7 @@ pub fn node_command<'a>(
 
 /// What the words of a node say. Values are as `clap` has checked them.
 pub fn node_words_of(matches: &ArgMatches<'_>) -> NodeWords
-    ensures options { (w : Noded) → AreNodeOptionsOf (rows_of (found_of matches.now)) w →
+    ensures options { (w : NodeWords) → AreNodeOptionsOf (rows_of (found_of matches.now)) w →
         result ≡ w }
     ensures progress { (b : Bool) → IsFlag (rows_of (found_of matches.now)) (codes "progress") b →
         result.progress ≡ b }
@@ -136,92 +125,35 @@ pub fn node_words_of(matches: &ArgMatches<'_>) -> NodeWords
     }
 }
 
-/// Why a node answers no more, or not at all, in the order of the checks.
-#[derive(Clone, Copy, Debug, Error)]
-pub enum NodeFault {
-    /// There are no random words to hash labels by.
-    #[error("the system gives no random words")]
-    Random,
-    /// The node gives up.
-    #[error(transparent)]
-    Node(ServeNodeError),
-}
-
-// What the end of a node is told as. It takes no memory.
-fn told_of_node(served: Result<(), ServeNodeError>) -> Result<(), NodeFault>
-    ensures { result ≡ told_of_node served }
-{
-    match served {
-        Ok(()) => Ok(()),
-        Err(fault) => Err(NodeFault::Node(fault)),
-    }
-}
-
 /// A node of these words, which answers the commands in the input until that ends. Where there is a teller, it tells
 /// how the node gets on.
 ///
-/// Without random words nothing is read, and nothing answered; where there is no job, nothing is answered; what was
-/// answered before a request that cannot be read stands.
-pub fn node_by<H: AllocGlobal + RandomSource, T: Teller, R: CountedRead, W: CountedWrite>(
-    rt: &H,
+/// Where there is no job, nothing is answered; what was answered before a request that cannot be read stands.
+pub fn node_by<H: AllocGlobal, T: Teller, R: CountedRead, W: CountedWrite>(
+    server: &Server<'_, H, T>,
+    state: RandomState,
     words: &NodeWords,
-    teller: &Option<T>,
     reader: &mut R,
     writer: &mut W,
-) -> Result<(), NodeFault>
-    ensures served { OnOk result (ServesNode
-        (settings_of words.now.job.options) words.now.job.counted words.now.part
-        (R.remaining reader.old) (R.remaining reader.new)
-        (W.contents writer.old) (W.contents writer.new)) }
-    ensures stopped { (e : NoAnswer) → result ≡ Err (NodeFault.Node (ServeNodeError.Serve e)) →
-        (IsOfMachine e → ⊥) → StopsNode
-        (settings_of words.now.job.options) words.now.job.counted words.now.part e
-        (R.remaining reader.old) (R.remaining reader.new)
-        (W.contents writer.old) (W.contents writer.new) }
-    ensures jobless { (e : NoJob) → result ≡ Err (NodeFault.Node (ServeNodeError.Job e)) →
-        Keeps (W.contents writer.old) (W.contents writer.new) }
-    // Which refusal it is.
-    ensures refused { (e : NoJob) → result ≡ Err (NodeFault.Node (ServeNodeError.Job e)) → HasNoNode
-        (settings_of words.now.job.options) words.now.job.counted words.now.part
-        (R.remaining reader.old) (R.remaining reader.new) e }
-    // Behind the job memory is refused only where what was read is requests, and the front of a line or all of a
-    // request.
-    ensures wanting { result ≡ Err (NodeFault.Node (ServeNodeError.Serve no_answer.Memory)) →
-        WantsNode (settings_of words.now.job.options) words.now.job.counted words.now.part
-        (R.remaining reader.old) (R.remaining reader.new) }
-    // A call failed exactly where that is told.
-    ensures read { result ≡ Err (NodeFault.Node (ServeNodeError.Serve no_answer.Read)) →
-        RisesByOne (R.failed_calls reader.old) (R.failed_calls reader.new) }
-    ensures read_job { result ≡ Err (NodeFault.Node (ServeNodeError.Job no_job.Read)) →
-        RisesByOne (R.failed_calls reader.old) (R.failed_calls reader.new) }
-    ensures counted { result ≢ Err (NodeFault.Node (ServeNodeError.Serve no_answer.Read)) →
-        result ≢ Err (NodeFault.Node (ServeNodeError.Job no_job.Read)) →
-        R.failed_calls reader.new ≡ R.failed_calls reader.old }
-    ensures write { result ≡ Err (NodeFault.Node (ServeNodeError.Serve no_answer.Write)) →
-        RisesByOne (W.failed_calls writer.old) (W.failed_calls writer.new) }
-    ensures written { result ≢ Err (NodeFault.Node (ServeNodeError.Serve no_answer.Write)) →
-        W.failed_calls writer.new ≡ W.failed_calls writer.old }
-    ensures random { result ≡ Err NodeFault.Random →
-        Keeps (W.contents writer.old) (W.contents writer.new) }
-    ensures unread { result ≡ Err NodeFault.Random →
-        Keeps (R.remaining reader.old) (R.remaining reader.new) }
+) -> Result<(), ServeNodeError>
+    ensures done { OnOk result (DoesNode words.now
+        (reads_of R.remaining R.failed_calls R.sure_calls reader.old reader.new)
+        (writes_of W.contents W.failed_calls writer.old writer.new)) }
+    ensures fault { IfErr result (FailsNode words.now
+        (reads_of R.remaining R.failed_calls R.sure_calls reader.old reader.new)
+        (writes_of W.contents W.failed_calls writer.old writer.new)) }
 {
-    let Ok(state) = RandomState::new(rt) else {
-        return Err(NodeFault::Random);
-    };
-    let watch = TellingWatch::new(teller);
+    let watch = TellingWatch::new(server.teller);
     watch.before_read(&words.job.options);
-    let served = serve_node(
-        rt.alloc(),
+    serve_node(
+        server.rt.alloc(),
         state,
         &words.job,
         words.part,
         &watch,
         reader,
         writer,
-    );
-    if served.is_ok() {
-        watch.after_commands();
-    }
-    told_of_node(served)
+    )?;
+    watch.after_commands();
+    Ok(())
 }

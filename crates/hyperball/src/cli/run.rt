@@ -1,42 +1,29 @@
 //! The command `hyperball run`: its words, and a run of them.
 
-ghost use Rattle.std.specs.Prelude.{◌≡◌, [], Err, IfErr, IfOk, IfSome, List, MatchOption};
-ghost use Rattle.std.specs.Prelude.{is_some, false, true, Bool, option_map, MatchResult};
-ghost use Rattle.std.specs.Prelude.{⊤, ℕ};
-ghost use Rattle.clap.specs.Words.{App, found_of, has_subcommand, rows_of};
-ghost use Rattle.clap.specs.Words.{subcommand_rows_of};
-ghost use Rattle.hyperball.specs.CommandLine.{IsApp};
-ghost use Rattle.hyperball.specs.CommandLine.{run_app, with_arguments, with_nodes};
-ghost use Rattle.hyperball.specs.CommandLine.{with_large, with_orders, with_progress, with_threads};
-ghost use Rattle.hyperball.specs.declared.cli.run.RunWords.{RunWords as Run};
-ghost use Rattle.hyperball.specs.Orders.{AreOrders, SpellsOrders};
-ghost use Rattle.hyperball.specs.Words.{AreListed, AreOptionsOf, AreOrdersIn, FailsWith};
-ghost use Rattle.hyperball.specs.Words.{GivesLists, GivesOrders};
-ghost use Rattle.hyperball.specs.Words.{IsRunOf, MisspellsLists, SpellLists};
-ghost use Rattle.hyperball.specs.Words.{GivesProgress};
-ghost use Rattle.ball_model.specs.declared.names.NodeId.{NodeId as Node};
-ghost use Rattle.std.specs.Prelude.{◌≢◌};
-ghost use Rattle.std.specs.Prelude.{None, OnErr, OnOk, Some};
-ghost use Rattle.std.specs.Io.KnownBytes.{Keeps};
-ghost use Rattle.ball_model.specs.Sections.{sections_of};
-ghost use Rattle.hyperball.specs.Streams.{KeptOrFailed};
-ghost use Rattle.edgelist.specs.declared.read.EdgeError.TheVariants as edge_fault;
-ghost use Rattle.hyperball.specs.Options.{options_of, settings_in};
-ghost use Rattle.hyperball.specs.Refusals.{IsFault, ReadsEdges, ReadsListed};
-ghost use Rattle.hyperball.specs.Words.{Reports, Serves};
-ghost use Rattle.hyperball.specs.Words.{listed_words};
-ghost use Rattle.hyperball.specs.declared.options.Options.{Options as Asked};
+ghost use Rattle.std.specs.Prelude.{◌≡◌, ◌≢◌, [], Err, IfErr, IfOk, IfSome, List, MatchOption};
+ghost use Rattle.std.specs.Prelude.{MatchResult, OnErr, OnOk, codes, false, is_some, option_map};
+ghost use Rattle.std.specs.Prelude.{true, ⊤, Bool, ℕ};
+ghost use Rattle.clap.specs.Words.{App, found_of, has_subcommand, rows_of, subcommand_rows_of};
 ghost use Rattle.edgelist.specs.Job.{settings_of};
-ghost use Rattle.workers.specs.Options.{run_job};
-ghost use Rattle.hyperball.specs.declared.whole.WholeError.{WholeError as NoInput};
+ghost use Rattle.hyperball.specs.CommandLine.{IsApp, run_app, with_arguments, with_large};
+ghost use Rattle.hyperball.specs.CommandLine.{with_nodes, with_orders, with_progress};
+ghost use Rattle.hyperball.specs.CommandLine.{with_threads};
+ghost use Rattle.hyperball.specs.Ends.{FailsRun};
+ghost use Rattle.hyperball.specs.Orders.{AreOrders, SpellsOrders};
+ghost use Rattle.hyperball.specs.Refusals.{DoesJob, FailsJob};
+ghost use Rattle.hyperball.specs.Streams.{reads_of, writes_of};
+ghost use Rattle.hyperball.specs.Whole.{ReadsFew};
+ghost use Rattle.hyperball.specs.Wishes.{with_lists_of};
+ghost use Rattle.hyperball.specs.Words.{AreListed, AreOptionsOf, AreOrdersIn, FailsWith};
+ghost use Rattle.hyperball.specs.Words.{GivesLists, GivesOrders, GivesProgress, IsFlag, IsRunOf};
+ghost use Rattle.hyperball.specs.Words.{MisspellsLists, SpellLists};
 
-use crate::cli::WordsError;
 use crate::cli::arguments::{Argument, Texts, large, option, progress, subcommand_of, threads};
-use crate::cli::job::{job_arguments, job_input_of, wants_large, wants_progress};
+use crate::cli::job::{USUAL, job_arguments, job_input_of, wants_large, wants_progress};
 use crate::cli::orders::{OrdersError, are_orders, orders_in};
-use crate::options::{Options, Orders, USUAL, run_options};
+use crate::cli::{Server, WordsError};
 use crate::progress::{Teller, TellingGate};
-use crate::whole::{WholeError, read_whole, sections};
+use crate::whole::{Form, Lack, WholeError, parts_of, read_whole};
 use ball_model::{CountedRead, CountedWrite, NodeId};
 use clap::builder::ValueParser;
 use clap::{ArgMatches, Command, value_parser};
@@ -131,22 +118,25 @@ const RESTART_HELP: &str =
 const THREADS_HELP: &str =
     "Threads that work at once in reading, in large supersteps and on figures, 1 to 1024; 0: one a core [default: 0]";
 
+// How many replicas each partition has, where that is not said.
+const REPLICAS: u8 = 1;
+
+// How many entries the history of the board may have, where that is not said.
+const ENTRIES: u32 = 1_048_576;
+
+// How many supersteps there are from one snapshot to the next, where that is not said.
+const KEEP: u32 = 1;
+
+// After how many idle turns a replica gives up, where that is not said.
+const PATIENCE: u32 = 1_000_000;
+
 /// What the words of a run say.
-#[derive(Clone, Copy, PartialEq, Eq)]
+#[derive(Drop)]
 pub struct RunWords {
-    /// The options.
-    pub options: Options,
+    /// The options, with the lists of orders.
+    pub options: RunOptions,
     /// Whether a list of counted vertices follows the edge list.
     pub counted: bool,
-}
-
-/// What words say: a run, which of its replicas are lost or start anew, and whether it tells its progress.
-#[derive(Drop)]
-pub struct Said {
-    /// What the words of the run say.
-    pub words: RunWords,
-    /// The lists of orders.
-    pub orders: Orders,
     /// Whether progress is to be told.
     pub progress: bool,
 }
@@ -188,37 +178,11 @@ pub fn run_command<'a>(
     subcommand_of(alloc, &texts, &job, &run_arguments())
 }
 
-// The options of run. Values are as `clap` has checked them.
-fn options_of(matches: &ArgMatches<'_>) -> RunWords
-    ensures { (w : Run) → AreOptionsOf (rows_of (found_of matches.now)) w → result ≡ w }
-{
-    let threads = matches.get_one("threads").unwrap_or(USUAL.threads);
-    let JobInput {
-        options: job,
-        counted,
-    } = job_input_of(matches, wants_large(matches), threads);
-    let options = Options {
-        log2m: job.log2m,
-        seed: job.seed,
-        parts: job.parts,
-        limit: job.limit,
-        estimate: job.estimate,
-        delimiter: job.delimiter,
-        large: job.large,
-        replicas: matches.get_one("replicas").unwrap_or(USUAL.replicas),
-        entries: matches.get_one("entries").unwrap_or(USUAL.entries),
-        keep: matches.get_one("keep").unwrap_or(USUAL.keep),
-        patience: matches.get_one("patience").unwrap_or(USUAL.patience),
-        threads: job.threads,
-    };
-    RunWords { options, counted }
-}
-
 // Whether a list is of its form, where one is given.
 fn is_listed(text: Option<&str>) -> bool
     ensures yes { result ≡ true →
         MatchOption (option_map (λ text. text.now) text.entry) ⊤ SpellsOrders }
-    ensures no { (os : List (Node × ℕ)) → result ≡ false →
+    ensures no { (os : List (NodeId × ℕ)) → result ≡ false →
         MatchOption (option_map (λ text. text.now) text.entry)
         (os ≡ []) (λ text. AreOrders text os) → ⊥ }
 {
@@ -236,7 +200,7 @@ fn listed_orders(alloc: Global, text: Option<&str>) -> Result<Vec<(NodeId, u32)>
     ensures form { IfErr result (λ e. e ≡ OrdersError.Form →
         is_some (option_map (λ text. text.now) text.entry) ≡ true) }
     // A list that is of its form is not refused.
-    ensures read { (os : List (Node × ℕ)) →
+    ensures read { (os : List (NodeId × ℕ)) →
         MatchOption (option_map (λ text. text.now) text.entry)
         (os ≡ []) (λ text. AreOrders text os) →
         MatchResult result (λ found. found.items ≡ os) (λ e. e ≡ OrdersError.Memory) }
@@ -250,9 +214,13 @@ fn listed_orders(alloc: Global, text: Option<&str>) -> Result<Vec<(NodeId, u32)>
     }
 }
 
-// The lists of orders of a run. Both are looked at before memory is asked for.
-fn orders_of(alloc: Global, matches: &ArgMatches<'_>) -> Result<Orders, OrdersError>
-    ensures listed { IfOk result (AreListed (rows_of (found_of matches.now))) }
+// Orders, each of a replica at a superstep.
+type Orders = Vec<(NodeId, u32)>;
+
+// The lists of orders of a run: which replicas are lost, and which start anew. Both are looked at before memory is asked for.
+fn orders_of(alloc: Global, matches: &ArgMatches<'_>) -> Result<(Orders, Orders), OrdersError>
+    ensures listed { IfOk result (λ os.
+        AreListed (rows_of (found_of matches.now)) os.0.items os.1.items) }
     ensures form { IfErr result (λ e. e ≡ OrdersError.Form →
         AreOrdersIn (rows_of (found_of matches.now))) }
     // A list is refused only where one is not of its form, and memory only where both are.
@@ -269,20 +237,57 @@ fn orders_of(alloc: Global, matches: &ArgMatches<'_>) -> Result<Orders, OrdersEr
         Err(error) => Err(error),
         Ok(lose) => match listed_orders(alloc, restart) {
             Err(error) => Err(error),
-            Ok(restart) => Ok(Orders { lose, restart }),
+            Ok(restart) => Ok((lose, restart)),
         },
     }
 }
 
+// What the words of a run say, with these lists of orders. Values are as `clap` has checked them.
+fn words_with(matches: &ArgMatches<'_>, lose: Orders, restart: Orders) -> RunWords
+    ensures words { (w : RunWords) → AreOptionsOf (rows_of (found_of matches.now)) w →
+        with_lists_of w result ≡ w }
+    ensures lose { result.options.lose ≡ lose }
+    ensures restart { result.options.restart ≡ restart }
+    ensures progress { (b : Bool) → IsFlag (rows_of (found_of matches.now)) (codes "progress") b →
+        result.progress ≡ b }
+{
+    let threads = matches.get_one("threads").unwrap_or(USUAL.threads);
+    let JobInput {
+        options: job,
+        counted,
+    } = job_input_of(matches, wants_large(matches), threads);
+    let options = RunOptions {
+        log2m: job.log2m,
+        seed: job.seed,
+        parts: job.parts,
+        limit: job.limit,
+        estimate: job.estimate,
+        delimiter: job.delimiter,
+        large: job.large,
+        threads: job.threads,
+        replicas: matches.get_one("replicas").unwrap_or(REPLICAS),
+        entries: matches.get_one("entries").unwrap_or(ENTRIES),
+        keep: matches.get_one("keep").unwrap_or(KEEP),
+        patience: matches.get_one("patience").unwrap_or(PATIENCE),
+        lose,
+        restart,
+    };
+    RunWords {
+        options,
+        counted,
+        progress: wants_progress(matches),
+    }
+}
+
 /// What the words of a run say.
-pub fn run_words(alloc: Global, matches: &ArgMatches<'_>) -> Result<Said, WordsError>
+pub fn run_words(alloc: Global, matches: &ArgMatches<'_>) -> Result<RunWords, WordsError>
     requires { has_subcommand matches.now ≡ true }
-    ensures run { (w : Run) → IsRunOf (subcommand_rows_of matches.now) w →
-        IfOk result (λ said. said.words ≡ w) }
-    ensures orders { IfOk result (λ said.
-        IfSome (subcommand_rows_of matches.now) (λ s. AreListed s.1 said.orders)) }
+    ensures run { (w : RunWords) → IsRunOf (subcommand_rows_of matches.now) w →
+        IfOk result (λ v. with_lists_of w v ≡ w) }
+    ensures orders { IfOk result (λ v. IfSome (subcommand_rows_of matches.now) (λ s.
+        AreListed s.1 v.options.lose.items v.options.restart.items)) }
     ensures progress { (b : Bool) → GivesProgress (subcommand_rows_of matches.now) b →
-        IfOk result (λ said. said.progress ≡ b) }
+        IfOk result (λ v. v.progress ≡ b) }
     ensures none { FailsWith [] result }
     ensures form { result ≡ Err (WordsError.Orders OrdersError.Form) →
         GivesOrders (subcommand_rows_of matches.now) }
@@ -293,12 +298,52 @@ pub fn run_words(alloc: Global, matches: &ArgMatches<'_>) -> Result<Said, WordsE
 {
     let (_, inner) = matches.subcommand().unwrap();
     match orders_of(alloc, inner) {
-        Ok(orders) => Ok(Said {
-            words: options_of(inner),
-            orders,
-            progress: wants_progress(inner),
-        }),
+        Ok((lose, restart)) => Ok(words_with(inner, lose, restart)),
         Err(error) => Err(WordsError::Orders(error)),
+    }
+}
+
+/// Why the job in an input gives no report, in the order of the checks.
+#[derive(Clone, Copy, Debug, Error)]
+pub enum JobFault {
+    /// The input is not read whole.
+    #[error(transparent)]
+    Input(WholeError),
+    /// The input lacks a part.
+    #[error(transparent)]
+    Lacks(Lack),
+    /// The run gives no report.
+    #[error(transparent)]
+    Run(RunError),
+}
+
+impl From<WholeError> for JobFault {
+    ghost use Rattle.hyperball.specs.declared.cli.run.JobFault.TheVariants.{Input};
+
+    ghost from_gives = { λ fault e. e ≡ Input fault };
+
+    fn from(fault: WholeError) -> JobFault {
+        JobFault::Input(fault)
+    }
+}
+
+impl From<Lack> for JobFault {
+    ghost use Rattle.hyperball.specs.declared.cli.run.JobFault.TheVariants.{Lacks};
+
+    ghost from_gives = { λ fault e. e ≡ Lacks fault };
+
+    fn from(fault: Lack) -> JobFault {
+        JobFault::Lacks(fault)
+    }
+}
+
+impl From<RunError> for JobFault {
+    ghost use Rattle.hyperball.specs.declared.cli.run.JobFault.TheVariants.{Run as Fault};
+
+    ghost from_gives = { λ fault e. e ≡ Fault fault };
+
+    fn from(fault: RunError) -> JobFault {
+        JobFault::Run(fault)
     }
 }
 
@@ -311,161 +356,124 @@ pub enum RunFault {
     /// There are no random words to hash labels by.
     #[error("the system gives no random words")]
     Random,
-    /// The input is not read whole.
+    /// The job in the input is not done.
     #[error(transparent)]
-    Input(WholeError),
-    /// There is no list of counted vertices.
-    #[error("no line %% before the list")]
-    NoList,
-    /// The run gives no report.
-    #[error(transparent)]
-    Run(RunError),
+    Job(JobFault),
 }
 
-impl From<WholeError> for RunFault {
-    ghost use Rattle.hyperball.specs.declared.cli.run.RunFault.TheVariants.{Input};
-
-    ghost from_gives = { λ fault e. e ≡ Input fault };
-
-    fn from(fault: WholeError) -> RunFault {
-        RunFault::Input(fault)
-    }
+// A run over an input: what it runs on, what is asked of it, and who watches it.
+#[derive(Drop)]
+struct Job<'a, H, G> {
+    rt: &'a H,
+    options: &'a RunOptions,
+    gate: &'a G,
 }
 
-impl From<RunError> for RunFault {
-    ghost use Rattle.hyperball.specs.declared.cli.run.RunFault.TheVariants.{Run as Fault};
-
-    ghost from_gives = { λ fault e. e ≡ Fault fault };
-
-    fn from(fault: RunError) -> RunFault {
-        RunFault::Run(fault)
-    }
-}
-
-// A run over a whole input, which has the list of counted vertices too, after a line of %%.
-fn run_sections<H: AllocGlobal + Threads + Wait + Sync, W: CountedWrite, G: Gate + Watch + Sync>(
-    rt: &H,
-    state: RandomState,
-    options: &RunOptions,
-    gate: &G,
-    input: &[u8],
-    writer: &mut W,
-) -> Result<(), RunFault>
-    ensures done { (o : Asked) → settings_of (run_job options.now) ≡ settings_in o →
-        OnOk result (Reports (listed_words o) input.now
-        (W.contents writer.old) (W.contents writer.new)) }
-    ensures unlisted { sections_of input.now ≡ None → result ≡ Err RunFault.NoList }
-    ensures refused { IfErr result (IsFault options.now true (Some input.now)) }
-    ensures gate { result ≢ Err RunFault.Gate }
-    ensures random { result ≢ Err RunFault.Random }
-    ensures input { (f : NoInput) → result ≢ Err (RunFault.Input f) }
-    ensures edges { result ≢ Err (RunFault.Run (RunError.Edges edge_fault.Read)) }
-    ensures kept { OnErr result (
-        KeptOrFailed W.contents W.failed_calls writer.old writer.new) }
-{
-    let Some((edges, list)) = sections(input) else {
-        return Err(RunFault::NoList);
-    };
-    let mut edges = Bytes::new(edges);
-    workers::run_watched(rt, state, &mut edges, Some(list), writer, options, gate)?;
-    Ok(())
-}
-
-// A run over an input that is read whole.
+// A run over an input that is read whole, which has the list of counted vertices too.
 fn run_listed<
     H: AllocGlobal + Threads + Wait + Sync,
     R: CountedRead,
     W: CountedWrite,
     G: Gate + Watch + Sync,
->(
-    rt: &H,
-    state: RandomState,
-    options: &RunOptions,
-    gate: &G,
-    reader: &mut R,
-    writer: &mut W,
-) -> Result<(), RunFault>
-    ensures done { (o : Asked) → settings_of (run_job options.now) ≡ settings_in o →
-        OnOk result (Serves (listed_words o) (R.remaining reader.old)
-        W.contents writer.old writer.new) }
-    ensures refused { IfErr result (IsFault options.now true (R.remaining reader.old)) }
-    ensures gate { result ≢ Err RunFault.Gate }
-    ensures random { result ≢ Err RunFault.Random }
-    ensures listed { ReadsListed R.remaining R.failed_calls R.sure_calls
-        reader.old reader.new result }
-    ensures kept { OnErr result (
-        KeptOrFailed W.contents W.failed_calls writer.old writer.new) }
+>(job: &Job<'_, H, G>, state: RandomState, reader: &mut R, writer: &mut W) -> Result<(), JobFault>
+    ensures done { OnOk result (DoesJob job.now.options.now true
+        (reads_of R.remaining R.failed_calls R.sure_calls reader.old reader.new)
+        (writes_of W.contents W.failed_calls writer.old writer.new)) }
+    ensures fault { IfErr result (FailsJob job.now.options.now true
+        (reads_of R.remaining R.failed_calls R.sure_calls reader.old reader.new)
+        (writes_of W.contents W.failed_calls writer.old writer.new)) }
+    ensures few { ReadsFew (R.remaining reader.old) (R.remaining reader.new) }
 {
-    let input = read_whole(rt.alloc(), reader)?;
-    run_sections(rt, state, options, gate, &input, writer)
+    let input = read_whole(job.rt.alloc(), reader)?;
+    let form = Form {
+        list: true,
+        script: false,
+    };
+    let parts = parts_of(&input, form)?;
+    let mut edges = Bytes::new(parts.edges);
+    workers::run_watched(
+        job.rt,
+        state,
+        &mut edges,
+        parts.list,
+        writer,
+        job.options,
+        job.gate,
+    )?;
+    Ok(())
 }
 
-// A run by these options, with or without a list of counted vertices.
-fn run_by<
-    H: AllocGlobal + RandomSource + Threads + Wait + Sync,
+// A run over the input, with a list of counted vertices or without.
+fn run_job<
+    H: AllocGlobal + Threads + Wait + Sync,
     R: CountedRead,
     W: CountedWrite,
     G: Gate + Watch + Sync,
 >(
-    rt: &H,
+    job: &Job<'_, H, G>,
+    state: RandomState,
     counted: bool,
-    options: &RunOptions,
-    gate: &G,
     reader: &mut R,
     writer: &mut W,
-) -> Result<(), RunFault>
-    ensures done { (w : Run) → settings_of (run_job options.now) ≡ settings_in w.options →
-        counted ≡ w.counted →
-        OnOk result (Serves w (R.remaining reader.old) W.contents writer.old writer.new) }
-    ensures gate { result ≢ Err RunFault.Gate }
-    ensures random { result ≡ Err RunFault.Random →
-        Keeps (R.remaining reader.old) (R.remaining reader.new) }
-    ensures refused { IfErr result (IsFault options.now counted (R.remaining reader.old)) }
-    ensures listed { counted ≡ true → ReadsListed R.remaining R.failed_calls R.sure_calls
-        reader.old reader.new result }
-    ensures edges { counted ≡ false → ReadsEdges R.failed_calls reader.old reader.new result }
-    ensures kept { OnErr result (
-        KeptOrFailed W.contents W.failed_calls writer.old writer.new) }
+) -> Result<(), JobFault>
+    ensures done { OnOk result (DoesJob job.now.options.now counted
+        (reads_of R.remaining R.failed_calls R.sure_calls reader.old reader.new)
+        (writes_of W.contents W.failed_calls writer.old writer.new)) }
+    ensures fault { IfErr result (FailsJob job.now.options.now counted
+        (reads_of R.remaining R.failed_calls R.sure_calls reader.old reader.new)
+        (writes_of W.contents W.failed_calls writer.old writer.new)) }
+    ensures few { counted ≡ true → ReadsFew (R.remaining reader.old) (R.remaining reader.new) }
 {
-    let Ok(state) = RandomState::new(rt) else {
-        return Err(RunFault::Random);
-    };
     if counted {
-        return run_listed(rt, state, options, gate, reader, writer);
+        return run_listed(job, state, reader, writer);
     }
-    workers::run_watched(rt, state, reader, None, writer, options, gate)?;
+    workers::run_watched(job.rt, state, reader, None, writer, job.options, job.gate)?;
     Ok(())
 }
 
-/// A run of these words, which tells how it gets on where there is a teller.
-pub fn run_told<
+/// A run of these words: its report is written. Where there is a teller, it tells how the run gets on.
+///
+/// The faults come in the order of [`RunFault`]. After `Gate` and `Random` nothing was read or written. With a list of counted
+/// vertices the input is read whole ([`read_whole`]), and `Lacks` is answered exactly where no line is the mark; without one
+/// a failed read is answered exactly where a call of the reader failed (while failures can be counted).
+pub fn run_by<
     H: AllocGlobal + Clock + RandomSource + Threads + Wait + Sync,
     T: Teller + Sync,
     R: CountedRead,
     W: CountedWrite,
->(rt: &H, said: Said, teller: &Option<T>, reader: &mut R, writer: &mut W) -> Result<(), RunFault>
-    ensures done { OnOk result (
-        Serves said.words (R.remaining reader.old) W.contents writer.old writer.new) }
-    ensures gate { result ≡ Err RunFault.Gate →
-        Keeps (R.remaining reader.old) (R.remaining reader.new) }
-    ensures random { result ≡ Err RunFault.Random →
-        Keeps (R.remaining reader.old) (R.remaining reader.new) }
-    ensures refused { IfErr result (IsFault (options_of said.words.options said.orders)
-        said.words.counted (R.remaining reader.old)) }
-    ensures listed { said.words.counted ≡ true →
-        ReadsListed R.remaining R.failed_calls R.sure_calls reader.old reader.new result }
-    ensures edges { said.words.counted ≡ false →
-        ReadsEdges R.failed_calls reader.old reader.new result }
-    ensures kept { OnErr result (
-        KeptOrFailed W.contents W.failed_calls writer.old writer.new) }
+>(
+    server: &Server<'_, H, T>,
+    words: RunWords,
+    reader: &mut R,
+    writer: &mut W,
+) -> Result<(), RunFault>
+    ensures done { OnOk result (DoesJob words.options words.counted
+        (reads_of R.remaining R.failed_calls R.sure_calls reader.old reader.new)
+        (writes_of W.contents W.failed_calls writer.old writer.new)) }
+    ensures fault { IfErr result (FailsRun words
+        (reads_of R.remaining R.failed_calls R.sure_calls reader.old reader.new)
+        (writes_of W.contents W.failed_calls writer.old writer.new)) }
+    ensures few { words.counted ≡ true →
+        ReadsFew (R.remaining reader.old) (R.remaining reader.new) }
 {
-    let Said { words, orders, .. } = said;
-    let options = run_options(&words.options, orders);
-    let Ok(gate) = TellingGate::new(rt.alloc(), rt, teller.as_ref(), options.parts) else {
+    let rt = server.rt;
+    let teller = server.teller.as_ref();
+    let Ok(gate) = TellingGate::new(rt.alloc(), rt, teller, words.options.parts) else {
         return Err(RunFault::Gate);
     };
-    gate.before_run(&options);
-    let answer = run_by(rt, words.counted, &options, &gate, reader, writer);
+    gate.before_run(&words.options);
+    let Ok(state) = RandomState::new(rt) else {
+        return Err(RunFault::Random);
+    };
+    let job = Job {
+        rt,
+        options: &words.options,
+        gate: &gate,
+    };
+    let answer = run_job(&job, state, words.counted, reader, writer);
     gate.after_run(answer.is_ok());
-    answer
+    match answer {
+        Ok(()) => Ok(()),
+        Err(fault) => Err(RunFault::Job(fault)),
+    }
 }

@@ -4,8 +4,8 @@
 ghost use Rattle.std.specs.Prelude.{◌≡◌, None};
 
 use super::{Flow, NO_MEMORY, Pieces};
+use crate::lines::News;
 use crate::progress::{LendTeller, Teller};
-use crate::told::Told;
 use std::io;
 use std::io::{ErrorKind, Read, Write};
 use std::sync::atomic::{AtomicU32, Ordering};
@@ -220,7 +220,7 @@ impl Lines {
 }
 
 impl<'a> Teller for &'a Lines {
-    fn tell(&self, _told: Told) {
+    fn tell(&self, _news: News) {
         self.told.fetch_add(1, Ordering::SeqCst);
     }
 }

@@ -10,7 +10,6 @@ use crate::laws::{
     words_of_no_command, words_of_no_node, words_of_no_replay, words_of_no_run,
     words_of_one_command, words_of_progress,
 };
-use crate::options::Options;
 use crate::whole::WholeError;
 use ball_model::{Estimate, NodeId, PlanError};
 use edgelist::{CountedError, Delimiter, EdgeError, JobOptions};
@@ -102,9 +101,9 @@ fn texts_of_faults(rt: HostRuntime) {
     all_print(&rt, &WHOLE_TEXTS);
 }
 
-/// What the words of a run say below.
-const SAID: RunWords = RunWords {
-    options: Options {
+/// What the words of a run ask of its job below.
+const RUN_JOB: JobInput = JobInput {
+    options: JobOptions {
         log2m: 8,
         seed: 7,
         parts: 1,
@@ -112,10 +111,6 @@ const SAID: RunWords = RunWords {
         estimate: Estimate::Corrected,
         delimiter: Delimiter::Space,
         large: true,
-        replicas: 2,
-        entries: 1_048_576,
-        keep: 0,
-        patience: 7,
         threads: 1024,
     },
     counted: true,
@@ -166,20 +161,36 @@ const LARGE_SHARED_JOB: JobInput = JobInput {
     counted: false,
 };
 
-/// What words are read as: a run has lists of nodes that are lost and that start anew.
+/// Nodes, each at a superstep.
+type Orders = &'static [(NodeId, u32)];
+
+/// What words are read as: a run has replicas, entries, keep and patience, and nodes that are lost or that start anew.
 enum Reading {
-    Run(RunWords, &'static [(NodeId, u32)], &'static [(NodeId, u32)]),
+    Run(JobInput, (u8, u32, u32, u32), Orders, Orders),
     Node(NodeWords),
     Gather(GatherWords),
+}
+
+/// Whether a run is to be so.
+fn runs_as(words: &RunWords, job: &JobInput, numbers: &(u8, u32, u32, u32)) -> bool {
+    let options = &words.options;
+    options.job() == job.options
+        && words.counted == job.counted
+        && (
+            options.replicas,
+            options.entries,
+            options.keep,
+            options.patience,
+        ) == *numbers
 }
 
 /// Whether words are read so.
 fn is_read_as(wish: &Wish, reading: &Reading) -> bool {
     match (wish, reading) {
-        (Wish::Run(said), Reading::Run(words, lost, restarted)) => {
-            said.words == *words
-                && said.orders.lose.as_slice() == *lost
-                && said.orders.restart.as_slice() == *restarted
+        (Wish::Run(words), Reading::Run(job, numbers, lost, restarted)) => {
+            runs_as(words, job, numbers)
+                && words.options.lose.as_slice() == *lost
+                && words.options.restart.as_slice() == *restarted
         }
         (Wish::Node(words), Reading::Node(wanted)) => words == wanted,
         (Wish::Gather(words), Reading::Gather(wanted)) => words == wanted,
@@ -209,7 +220,8 @@ static READINGS: [(&str, Reading); 8] = [
         "hyperball run --seed 7 --estimate corrected --delimiter space --counted --replicas 2 --keep 0 \
         --patience 7 --threads 1024 --lose 0.1@999999999 --restart 65535.255@0,1.0@10 --large",
         Reading::Run(
-            SAID,
+            RUN_JOB,
+            (2, 1_048_576, 0, 7),
             &[(
                 NodeId {
                     part: 0,

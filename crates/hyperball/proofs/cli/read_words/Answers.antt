@@ -2,26 +2,21 @@ use Rattle.std.proofs.Common.{◌∙◌, List, Option, subst, sym}
 use Rattle.std.proofs.lemmas.Result.{IfOk-weaker}
 use Rattle.clap.specs.Words.{Row, Text}
 use Rattle.clap.specs.declared.error.kind.ErrorKind.{ErrorKind}
-use Rattle.hyperball.specs.Nodes.{IsGatherOf, IsNodeOf, NamesGather, NamesNode}
-use Rattle.hyperball.specs.Replaying.{IsReplayOf, NamesReplay}
-use Rattle.hyperball.specs.Words.{FailsWith, GivesLists, GivesOrders, GivesProgress, IsRunOf, MisspellsLists, SaysListed}
-use Rattle.hyperball.proofs.WishLemmas.{is_gather, is_node, is_replay}
+use Rattle.hyperball.specs.Wishes.{IsWishOf, NamesWish, SaysListed}
+use Rattle.hyperball.specs.Words.{FailsWith, GivesLists, GivesOrders, GivesProgress, MisspellsLists}
+use Rattle.hyperball.proofs.WishLemmas.{asks_wish, each_asked}
 use Rattle.hyperball.proofs.cli.read_words.Goals as goal
 
-pub returns-in-Ok-clause-run : goal.returns-in-Ok-clause-run
-returns-in-Ok-clause-run c = λ w is.
+pub returns-in-Ok-clause-asked : goal.returns-in-Ok-clause-asked
+returns-in-Ok-clause-asked c = λ a is.
     let read = c.in-Ok.ensures.read in
-    c.wish_of.ensures.run w (subst (λ (sub : Option (Text × List Row)). IsRunOf sub w) (sym read.rows) (is.command read.parsers read.take))
-
-pub returns-in-Ok-clause-replay : goal.returns-in-Ok-clause-replay
-returns-in-Ok-clause-replay c = λ w is.
-    let read = c.in-Ok.ensures.read in
-    is_replay c.wish_of.result w (c.wish_of.ensures.replay w (subst (λ (sub : Option (Text × List Row)). IsReplayOf sub w) (sym read.rows) (is.command read.parsers read.take)))
+    each_asked _ c.wish_of.result c.wish_of.ensures.run c.wish_of.ensures.replay c.wish_of.ensures.node c.wish_of.ensures.gather a
+    (subst (λ (sub : Option (Text × List Row)). IsWishOf sub a) (sym read.rows) (is.command read.parsers read.take))
 
 pub returns-in-Ok-clause-asks : goal.returns-in-Ok-clause-asks
-returns-in-Ok-clause-asks c = λ w is.
+returns-in-Ok-clause-asks c =
     let read = c.in-Ok.ensures.read in
-    record { parsers = read.parsers; take = read.take; named = subst NamesReplay read.rows (c.wish_of.ensures.asks w is) }
+    IfOk-weaker c.wish_of.result _ _ (λ x names. asks_wish _ x read.parsers read.take (subst (λ (sub : Option (Text × List Row)). NamesWish sub x) read.rows names)) c.wish_of.ensures.names
 
 pub returns-in-Ok-clause-orders : goal.returns-in-Ok-clause-orders
 returns-in-Ok-clause-orders c =
@@ -42,26 +37,6 @@ pub returns-in-Ok-clause-form : goal.returns-in-Ok-clause-form
 returns-in-Ok-clause-form c = λ is.
     let read = c.in-Ok.ensures.read in
     record { parsers = read.parsers; take = read.take; orders = subst GivesOrders read.rows (c.wish_of.ensures.form is) }
-
-pub returns-in-Ok-clause-node : goal.returns-in-Ok-clause-node
-returns-in-Ok-clause-node c = λ w is.
-    let read = c.in-Ok.ensures.read in
-    is_node c.wish_of.result w (c.wish_of.ensures.node w (subst (λ (sub : Option (Text × List Row)). IsNodeOf sub w) (sym read.rows) (is.command read.parsers read.take)))
-
-pub returns-in-Ok-clause-gather : goal.returns-in-Ok-clause-gather
-returns-in-Ok-clause-gather c = λ w is.
-    let read = c.in-Ok.ensures.read in
-    is_gather c.wish_of.result w (c.wish_of.ensures.gather w (subst (λ (sub : Option (Text × List Row)). IsGatherOf sub w) (sym read.rows) (is.command read.parsers read.take)))
-
-pub returns-in-Ok-clause-asks_node : goal.returns-in-Ok-clause-asks_node
-returns-in-Ok-clause-asks_node c = λ w is.
-    let read = c.in-Ok.ensures.read in
-    record { parsers = read.parsers; take = read.take; named = subst NamesNode read.rows (c.wish_of.ensures.names_node w is) }
-
-pub returns-in-Ok-clause-asks_gather : goal.returns-in-Ok-clause-asks_gather
-returns-in-Ok-clause-asks_gather c = λ w is.
-    let read = c.in-Ok.ensures.read in
-    record { parsers = read.parsers; take = read.take; named = subst NamesGather read.rows (c.wish_of.ensures.names_gather w is) }
 
 pub returns-in-Ok-clause-misspelt : goal.returns-in-Ok-clause-misspelt
 returns-in-Ok-clause-misspelt c = λ is.

@@ -18,14 +18,16 @@ returns-clause-usual c = record {
     _,
     refl,
     record {
-      log2m = refl;
-      seed = refl;
-      parts = refl;
-      limit = refl;
-      estimate = refl;
-      delimiter = refl;
+      job = record {
+        log2m = refl;
+        seed = refl;
+        parts = refl;
+        limit = refl;
+        estimate = refl;
+        delimiter = refl;
+        counted = refl;
+      };
       replicas = refl;
-      counted = refl;
       progress = refl;
     },
   ));
@@ -42,14 +44,16 @@ returns-clause-plan c = record {
     _,
     refl,
     record {
-      log2m = record { numeral = (lit< tt, (lit< tt, tt)); value = refl; fits = lit< tt };
-      seed = refl;
-      parts = record { numeral = (lit< tt, (lit< tt, tt)); value = refl; fits = lit< tt };
-      limit = record { numeral = (lit< tt, (lit< tt, tt)); value = refl; fits = lit< tt };
-      estimate = refl;
-      delimiter = refl;
+      job = record {
+        log2m = record { numeral = (lit< tt, (lit< tt, tt)); value = refl; fits = lit< tt };
+        seed = refl;
+        parts = record { numeral = (lit< tt, (lit< tt, tt)); value = refl; fits = lit< tt };
+        limit = record { numeral = (lit< tt, (lit< tt, tt)); value = refl; fits = lit< tt };
+        estimate = refl;
+        delimiter = refl;
+        counted = refl;
+      };
       replicas = record { numeral = (lit< tt, (lit< tt, tt)); value = refl; fits = lit< tt };
-      counted = refl;
       progress = refl;
     },
   ));
@@ -66,14 +70,16 @@ returns-clause-input c = record {
     _,
     refl,
     record {
-      log2m = refl;
-      seed = record { numeral = (lit< tt, (lit< tt, tt)); value = refl; fits = lit< tt };
-      parts = refl;
-      limit = refl;
-      estimate = refl;
-      delimiter = refl;
+      job = record {
+        log2m = refl;
+        seed = record { numeral = (lit< tt, (lit< tt, tt)); value = refl; fits = lit< tt };
+        parts = refl;
+        limit = refl;
+        estimate = refl;
+        delimiter = refl;
+        counted = refl;
+      };
       replicas = refl;
-      counted = refl;
       progress = refl;
     },
   ));

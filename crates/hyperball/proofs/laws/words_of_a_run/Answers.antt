@@ -24,125 +24,140 @@ node_line = codes "hyperball" ∷ codes "run" ∷ codes "--replicas" ∷ codes "
 
 pub returns-clause-nodes : goal.returns-clause-nodes
 unfolding clap_on_literals hyperball_app gather_app node_app replay_app run_app
-returns-clause-nodes c = record {
+returns-clause-nodes c = λ w. record {
   accepted = record { are = of_names (λ p. fault_of (hyperball_app p) node_line ≡ []) (λ at. refl) };
-  command = of_names (λ p. IsRunOf (subcommand_of (hyperball_app p) node_line) node_words) (λ at. (
+  command = of_names (λ p. IsRunOf (subcommand_of (hyperball_app p) node_line) (node_words w)) (λ at. (
     _,
     refl,
     record {
-      log2m = refl;
-      seed = refl;
-      parts = refl;
-      limit = refl;
-      estimate = refl;
-      delimiter = refl;
+      job = record {
+        log2m = refl;
+        seed = refl;
+        parts = refl;
+        limit = refl;
+        estimate = refl;
+        delimiter = refl;
+        counted = refl;
+      };
       large = refl;
+      threads = refl;
       replicas = record { numeral = (lit< tt, (lit< tt, tt)); value = refl; fits = lit< tt };
       entries = refl;
       keep = record { numeral = (lit< tt, (lit< tt, tt)); value = refl; fits = lit< tt };
       patience = refl;
-      threads = refl;
-      counted = refl;
+      progress = refl;
     },
   ));
 }
 
 pub returns-clause-log2m : goal.returns-clause-log2m
 unfolding clap_on_literals hyperball_app gather_app node_app replay_app run_app
-returns-clause-log2m c = record {
+returns-clause-log2m c = λ w. record {
   accepted = record { are = of_names (λ p. fault_of (hyperball_app p) log2m_line ≡ []) (λ at. refl) };
-  command = of_names (λ p. IsRunOf (subcommand_of (hyperball_app p) log2m_line) log2m_words) (λ at. (
+  command = of_names (λ p. IsRunOf (subcommand_of (hyperball_app p) log2m_line) (log2m_words w)) (λ at. (
     _,
     refl,
     record {
-      log2m = record { numeral = (lit< tt, (lit< tt, tt)); value = refl; fits = lit< tt };
-      seed = refl;
-      parts = refl;
-      limit = refl;
-      estimate = refl;
-      delimiter = refl;
+      job = record {
+        log2m = record { numeral = (lit< tt, (lit< tt, tt)); value = refl; fits = lit< tt };
+        seed = refl;
+        parts = refl;
+        limit = refl;
+        estimate = refl;
+        delimiter = refl;
+        counted = refl;
+      };
       large = refl;
+      threads = refl;
       replicas = refl;
       entries = refl;
       keep = refl;
       patience = refl;
-      threads = refl;
-      counted = refl;
+      progress = refl;
     },
   ));
 }
 
 pub returns-clause-limit : goal.returns-clause-limit
 unfolding clap_on_literals hyperball_app gather_app node_app replay_app run_app
-returns-clause-limit c = record {
+returns-clause-limit c = λ w. record {
   accepted = record { are = of_names (λ p. fault_of (hyperball_app p) space_line ≡ []) (λ at. refl) };
-  command = of_names (λ p. IsRunOf (subcommand_of (hyperball_app p) space_line) space_words) (λ at. (
+  command = of_names (λ p. IsRunOf (subcommand_of (hyperball_app p) space_line) (space_words w)) (λ at. (
     _,
     refl,
     record {
-      log2m = refl;
-      seed = refl;
-      parts = refl;
-      limit = record { numeral = (lit< tt, (lit< tt, (lit< tt, (lit< tt, (lit< tt, tt))))); value = refl; fits = lit< tt };
-      estimate = refl;
-      delimiter = refl;
+      job = record {
+        log2m = refl;
+        seed = refl;
+        parts = refl;
+        limit = record { numeral = (lit< tt, (lit< tt, (lit< tt, (lit< tt, (lit< tt, tt))))); value = refl; fits = lit< tt };
+        estimate = refl;
+        delimiter = refl;
+        counted = refl;
+      };
       large = refl;
+      threads = refl;
       replicas = refl;
       entries = refl;
       keep = refl;
       patience = refl;
-      threads = refl;
-      counted = refl;
+      progress = refl;
     },
   ));
 }
 
 pub returns-clause-estimate : goal.returns-clause-estimate
 unfolding clap_on_literals hyperball_app gather_app node_app replay_app run_app
-returns-clause-estimate c = record {
+returns-clause-estimate c = λ w. record {
   accepted = record { are = of_names (λ p. fault_of (hyperball_app p) corrected_line ≡ []) (λ at. refl) };
-  command = of_names (λ p. IsRunOf (subcommand_of (hyperball_app p) corrected_line) corrected_words) (λ at. (
+  command = of_names (λ p. IsRunOf (subcommand_of (hyperball_app p) corrected_line) (corrected_words w)) (λ at. (
     _,
     refl,
     record {
-      log2m = refl;
-      seed = refl;
-      parts = refl;
-      limit = refl;
-      estimate = refl;
-      delimiter = refl;
+      job = record {
+        log2m = refl;
+        seed = refl;
+        parts = refl;
+        limit = refl;
+        estimate = refl;
+        delimiter = refl;
+        counted = refl;
+      };
       large = refl;
+      threads = refl;
       replicas = refl;
       entries = refl;
       keep = refl;
       patience = refl;
-      threads = refl;
-      counted = refl;
+      progress = refl;
     },
   ));
 }
 
 pub returns-clause-counted : goal.returns-clause-counted
 unfolding clap_on_literals hyperball_app gather_app node_app replay_app run_app
-returns-clause-counted c = record {
+returns-clause-counted c = λ w. record {
   accepted = record { are = of_names (λ p. fault_of (hyperball_app p) counted_line ≡ []) (λ at. refl) };
-  command = of_names (λ p. IsRunOf (subcommand_of (hyperball_app p) counted_line) counted_words) (λ at. (
+  command = of_names (λ p. IsRunOf (subcommand_of (hyperball_app p) counted_line) (counted_words w)) (λ at. (
     _,
     refl,
     record {
-      log2m = refl;
-      seed = refl;
-      parts = record { numeral = (lit< tt, (lit< tt, tt)); value = refl; fits = lit< tt };
-      limit = refl;
-      estimate = refl;
-      delimiter = refl;
+      job = record {
+        log2m = refl;
+        seed = refl;
+        parts = record { numeral = (lit< tt, (lit< tt, tt)); value = refl; fits = lit< tt };
+        limit = refl;
+        estimate = refl;
+        delimiter = refl;
+        counted = refl;
+      };
       large = refl;
+      threads = refl;
       replicas = refl;
       entries = refl;
       keep = refl;
       patience = refl;
-      threads = refl;
-      counted = refl;
+      progress = refl;
     },
   ));
 }
@@ -152,25 +167,28 @@ board_line = codes "hyperball" ∷ codes "run" ∷ codes "--entries" ∷ codes "
 
 pub returns-clause-board : goal.returns-clause-board
 unfolding clap_on_literals hyperball_app gather_app node_app replay_app run_app
-returns-clause-board c = record {
+returns-clause-board c = λ w. record {
   accepted = record { are = of_names (λ p. fault_of (hyperball_app p) board_line ≡ []) (λ at. refl) };
-  command = of_names (λ p. IsRunOf (subcommand_of (hyperball_app p) board_line) board_words) (λ at. (
+  command = of_names (λ p. IsRunOf (subcommand_of (hyperball_app p) board_line) (board_words w)) (λ at. (
     _,
     refl,
     record {
-      log2m = refl;
-      seed = refl;
-      parts = refl;
-      limit = refl;
-      estimate = refl;
-      delimiter = refl;
+      job = record {
+        log2m = refl;
+        seed = refl;
+        parts = refl;
+        limit = refl;
+        estimate = refl;
+        delimiter = refl;
+        counted = refl;
+      };
       large = refl;
+      threads = record { numeral = (lit< tt, (lit< tt, tt)); value = refl; fits = lit< tt };
       replicas = refl;
       entries = record { numeral = (lit< tt, (lit< tt, (lit< tt, tt))); value = refl; fits = lit< tt };
       keep = refl;
       patience = record { numeral = (lit< tt, (lit< tt, (lit< tt, tt))); value = refl; fits = lit< tt };
-      threads = record { numeral = (lit< tt, (lit< tt, tt)); value = refl; fits = lit< tt };
-      counted = refl;
+      progress = refl;
     },
   ));
 }

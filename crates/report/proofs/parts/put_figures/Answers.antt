@@ -32,12 +32,12 @@ sizes_more vs n v inside is here before k d lt =
 pub loop-replica-preserved : goal.loop-replica-preserved
 loop-replica-preserved g c = record {
   sizes = sizes_more c.args.replicas.now c.loop-replica.replica-index c.replica-item.result c.loop-replica-test.true c.replica-item.is c.in_ok-own_figures.ensures.size c.loop-replica.invariant.sizes;
-  made = figures_more c.args.first c.args.last c.loop-replica.parts.items c.push.new.self.items c.in_ok-own_figures.field-0 c.args.replicas.now c.loop-replica.replica-index c.replica-item.result
+  made = figures_more c.args.places.now.start c.args.places.now.end c.loop-replica.parts.items c.push.new.self.items c.in_ok-own_figures.field-0 c.args.replicas.now c.loop-replica.replica-index c.replica-item.result
       c.loop-replica-test.true c.replica-item.is c.in_ok-push.ensures.items c.loop-replica.invariant.made c.in_ok-own_figures.ensures.value;
 }
 
 pub returns-clause-value : goal.returns-clause-value
-returns-clause-value g c = c.loop-replica.invariant.made ∙ ap (map (figures_among c.args.first c.args.last)) (take_all c.loop-replica.replica-index c.args.replicas.now c.loop-replica-test.false)
+returns-clause-value g c = c.loop-replica.invariant.made ∙ ap (map (figures_among c.args.places.now.start c.args.places.now.end)) (take_all c.loop-replica.replica-index c.args.replicas.now c.loop-replica-test.false)
 
 pub returns-clause-sizes : goal.returns-clause-sizes
 returns-clause-sizes g c = λ k d lt. c.loop-replica.invariant.sizes k d (omega arith)

@@ -25,19 +25,19 @@ vertex_more labels first parts a x start text line label f from before here name
 pub loop-x-init : goal.loop-x-init
 loop-x-init c = record {
   row = c.requires.row;
-  text = no_vertices c.args.graph.now.labels c.args.first (lists_in c.args.parts.now) c.args.from (text_in c.args.rows.now);
+  text = no_vertices c.args.graph.now.labels c.args.block.now.first (lists_in c.args.block.now.parts.items) c.args.vertices.start (text_in c.args.rows.now);
 }
 
 pub loop-x-preserved : goal.loop-x-preserved
 loop-x-preserved c = record {
   row = c.in_ok-put_vertex.ensures.row;
   text = c.in_ok-put_vertex.ensures.text
-      ∙ vertex_more c.args.graph.now.labels c.args.first (lists_in c.args.parts.now) c.args.from c.loop-x.x (text_in c.args.rows.now) (text_in c.loop-x.rows) (figures_line c.label.result.now c.figures_at.result)
+      ∙ vertex_more c.args.graph.now.labels c.args.block.now.first (lists_in c.args.block.now.parts.items) c.args.vertices.start c.loop-x.x (text_in c.args.rows.now) (text_in c.loop-x.rows) (figures_line c.label.result.now c.figures_at.result)
       c.label.result.now c.figures_at.result c.loop-x.auto.x c.loop-x.invariant.text refl c.label.ensures c.figures_at.ensures;
 }
 
 pub returns : goal.returns
 returns c =
-    let all : c.loop-x.x ≡ c.args.to = omega (arith, c.loop-x.auto.x-end, c.requires.from) in
+    let all : c.loop-x.x ≡ c.args.vertices.end = omega (arith, c.loop-x.auto.x-end, c.requires.from) in
     c.loop-x.invariant.text
-    ∙ ap (λ n. text_in c.args.rows.now ++ vertices_text c.args.graph.now.labels c.args.first (lists_in c.args.parts.now) c.args.from (n - c.args.from)) all
+    ∙ ap (λ n. text_in c.args.rows.now ++ vertices_text c.args.graph.now.labels c.args.block.now.first (lists_in c.args.block.now.parts.items) c.args.vertices.start (n - c.args.vertices.start)) all

@@ -6,5 +6,5 @@ use Rattle.report.proofs.parts.put_rows.Given as goal
 abbrev pub invariant-loop-x : goal.invariant-loop-x
 invariant-loop-x l = record {
   row : AtRow l.rows;
-  text : text_in l.rows ≡ text_in l.initial.rows ++ vertices_text l.graph.labels l.first (lists_in l.parts) l.from (l.x - l.from);
+  text : text_in l.rows ≡ text_in l.initial.rows ++ vertices_text l.graph.labels l.block.first (lists_in l.block.parts.items) l.fn.vertices.start (l.x - l.fn.vertices.start);
 }

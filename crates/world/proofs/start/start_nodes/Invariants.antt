@@ -1,6 +1,8 @@
+use Rattle.std.proofs.Common.{◌≡◌, ◌<◌, ℕ}
+use Rattle.ball_model.specs.Job.{IsJob, Job, part_of}
 use Rattle.world.specs.Shows.{AreStart}
-use Rattle.ball_model.specs.Job.{job_of}
 use Rattle.world.proofs.start.start_nodes.Given as goal
 
 abbrev pub invariant-loop : goal.invariant-loop
-invariant-loop l = AreStart (job_of l.graph.graph l.plan) l.p l.counter l.nodes.items
+invariant-loop l = (j : Job) (p : ℕ) → IsJob j → p < j.plan.parts → l.fn.part ≡ part_of j p →
+    AreStart j p l.counter l.nodes.items

@@ -2,27 +2,14 @@ use Rattle.std.proofs.Common.{◌≡◌, ◌∙◌, ap, codes, refl}
 use Rattle.std.specs.Str.Parse.{ExplainsUnsignedError, HasUnsignedDigitsIfOk}
 use Rattle.clap.specs.Words.{found_of}
 use Rattle.node.specs.declared.job.JobInput.{JobInput}
-use Rattle.hyperball.specs.declared.cli.replay.ReplayWords.{ReplayWords}
-use Rattle.world.specs.Replay.{replay_job}
+use Rattle.hyperball.specs.Replaying.{replay_input}
 use Rattle.hyperball.proofs.OptionLemmas.{number_is, same_replay_words}
 use Rattle.hyperball.proofs.cli.replay.replay_words_of.Goals as goal
-
--- what it asks of its job
-abbrev job_in : ReplayWords → JobInput
-job_in w = record { options = replay_job w.options; counted = w.counted }
 
 pub returns-clause-options : goal.returns-clause-options
 returns-clause-options c = λ w h.
     let f = found_of c.args.matches.now in
-    let job : c.job_input_of-counted.result ≡ job_in w = c.job_input_of-counted.ensures (job_in w) (record {
-      log2m = h.log2m;
-      seed = h.seed;
-      parts = h.parts;
-      limit = h.limit;
-      estimate = h.estimate;
-      delimiter = h.delimiter;
-      counted = h.counted;
-    }) refl refl in
+    let job : c.job_input_of-counted.result ≡ replay_input w = c.job_input_of-counted.ensures (replay_input w) h.job refl refl in
     same_replay_words _ _ _ _ _ _ _ _ _ w
     (ap (λ (o : JobInput). o.options.log2m) job)
     (ap (λ (o : JobInput). o.options.seed) job)

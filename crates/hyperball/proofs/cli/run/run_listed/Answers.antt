@@ -1,16 +1,70 @@
-use Rattle.std.proofs.Common.{true}
-use Rattle.std.proofs.lemmas.Result.{IfErr-weaker, on_ok_weaker}
-use Rattle.hyperball.proofs.RefusalLemmas.{told_whole}
-use Rattle.hyperball.proofs.ReportLemmas.{listed}
+use Rattle.std.proofs.Common.{ap, arith, refl}
+use Rattle.std.specs.Prelude.{Err}
+use Rattle.std.proofs.lemmas.Result.{err_from_is_err_and}
+use Rattle.ball_model.specs.RunText.{list_in}
+use Rattle.ball_model.specs.Streams.{Rises}
+use Rattle.hyperball.specs.Streams.{Reads, Writes, reads_of, writes_of}
+use Rattle.hyperball.specs.Whole.{Parts}
+use Rattle.hyperball.proofs.RefusalLemmas.{lacking, listed_fails, reports_listed, unread}
+use Rattle.hyperball.proofs.WholeLemmas.{IsRead, same_whole_error, seen}
+use Rattle.hyperball.proofs.WishLemmas.{keeps_same}
 use Rattle.hyperball.proofs.cli.run.run_listed.Goals as goal
 
-pub returns-clause-done : goal.returns-clause-done
-returns-clause-done g c = λ o same. on_ok_weaker c.run_sections.result
-    (listed (g.R.Read.remaining c.args.reader.now) c.in_ok-input.input.items c.deref.result.now (record { options = o; counted = true })
-    (g.W.Write.contents c.args.writer.now) (g.W.Write.contents c.run_sections.new.writer) c.in_ok-input.ensures.ok c.deref.ensures.value)
-    (c.run_sections.ensures.done o same)
+pub returns-in_err-input-clause-fault : goal.returns-in_err-input-clause-fault
+returns-in_err-input-clause-fault g c =
+    let p = err_from_is_err_and c.from_residual.result c.from_residual.ensures.1 in
+    let r : Reads = reads_of g.R.Read.remaining g.R.CountedRead.failed_calls g.R.CountedRead.sure_calls c.args.reader.now c.read_whole.new.reader in
+    let w : Writes = writes_of g.W.Write.contents g.W.CountedWrite.failed_calls c.args.writer.now c.args.writer.now in
+    rw (p.1, p.2) (unread c.args.job.now.options.now r w c.in_err-input.field-0.0 (record {
+      size = λ is. c.in_err-input.ensures.size (ap Err is);
+      memory = λ is. c.in_err-input.ensures.memory (ap Err is);
+      read = λ is. c.in_err-input.ensures.read (ap Err is);
+      failed = λ rises. same_whole_error _ _ _ (c.in_err-input.ensures.failed rises);
+      sure = λ sure is. c.in_err-input.ensures.sure sure (ap Err is);
+      few = c.in_err-input.ensures.few;
+    }) (keeps_same _ _ refl))
 
-pub returns-clause-refused : goal.returns-clause-refused
-returns-clause-refused g c = IfErr-weaker c.run_sections.result _ _
-    (λ f. told_whole c.args.options.now (g.R.Read.remaining c.args.reader.now) c.in_ok-input.input.items c.deref.result.now f c.in_ok-input.ensures.ok c.deref.ensures.value)
-    c.run_sections.ensures.refused
+pub returns-in_err-parts-clause-fault : goal.returns-in_err-parts-clause-fault
+returns-in_err-parts-clause-fault g c =
+    let p = err_from_is_err_and c.from_residual-in_err-parts.result c.from_residual-in_err-parts.ensures.1 in
+    let r : Reads = reads_of g.R.Read.remaining g.R.CountedRead.failed_calls g.R.CountedRead.sure_calls c.args.reader.now c.read_whole.new.reader in
+    let w : Writes = writes_of g.W.Write.contents g.W.CountedWrite.failed_calls c.args.writer.now c.args.writer.now in
+    let read : IsRead r c.in_ok-input.input.items = record {
+      whole = c.in_ok-input.ensures.ok;
+      within = c.in_ok-input.ensures.within;
+      unfailed = λ rises. let bad = c.in_ok-input.ensures.failed rises in absurd (cc);
+      few = c.in_ok-input.ensures.few;
+    } in
+    rw (p.1, p.2) (lacking c.args.job.now.options.now r w c.deref.result.now c.in_err-parts.field-0.0 (seen r _ _ read c.deref.ensures.value) c.in_err-parts.ensures.lacks (keeps_same _ _ refl))
+
+pub returns-in_err-run_watched-clause-fault : goal.returns-in_err-run_watched-clause-fault
+returns-in_err-run_watched-clause-fault g c =
+    let p = err_from_is_err_and c.from_residual-in_err-run_watched.result c.from_residual-in_err-run_watched.ensures.1 in
+    let r : Reads = reads_of g.R.Read.remaining g.R.CountedRead.failed_calls g.R.CountedRead.sure_calls c.args.reader.now c.read_whole.new.reader in
+    let w : Writes = writes_of g.W.Write.contents g.W.CountedWrite.failed_calls c.args.writer.now c.run_watched.new.writer in
+    let read : IsRead r c.in_ok-input.input.items = record {
+      whole = c.in_ok-input.ensures.ok;
+      within = c.in_ok-input.ensures.within;
+      unfailed = λ rises. let bad = c.in_ok-input.ensures.failed rises in absurd (cc);
+      few = c.in_ok-input.ensures.few;
+    } in
+    let parts : Parts = record { edges = c.in_ok-parts.parts.edges.now; list = list_in c.in_ok-parts.parts.list; script = list_in c.in_ok-parts.parts.script } in
+    rw (p.1, p.2) (listed_fails c.args.job.now.options.now r w c.deref.result.now c.new-edges.result.left.now parts c.in_err-run_watched.field-0.0
+    (seen r _ _ read c.deref.ensures.value) c.in_ok-parts.ensures.ok c.new-edges.ensures c.in_err-run_watched.ensures.fault
+    (c.in_err-run_watched.ensures.of_edges c.new-edges.result.left.now refl) c.in_err-run_watched.ensures.refused
+    (λ is. let bad : Rises 0 0 = c.in_err-run_watched.ensures.read (ap Err is) in absurd (omega (arith, bad)))
+    c.in_err-run_watched.ensures.untouched (λ is. c.in_err-run_watched.ensures.write (ap Err is)))
+
+pub returns-clause-done : goal.returns-clause-done
+returns-clause-done g c =
+    let r : Reads = reads_of g.R.Read.remaining g.R.CountedRead.failed_calls g.R.CountedRead.sure_calls c.args.reader.now c.read_whole.new.reader in
+    let w : Writes = writes_of g.W.Write.contents g.W.CountedWrite.failed_calls c.args.writer.now c.run_watched.new.writer in
+    let read : IsRead r c.in_ok-input.input.items = record {
+      whole = c.in_ok-input.ensures.ok;
+      within = c.in_ok-input.ensures.within;
+      unfailed = λ rises. let bad = c.in_ok-input.ensures.failed rises in absurd (cc);
+      few = c.in_ok-input.ensures.few;
+    } in
+    let parts : Parts = record { edges = c.in_ok-parts.parts.edges.now; list = list_in c.in_ok-parts.parts.list; script = list_in c.in_ok-parts.parts.script } in
+    reports_listed c.args.job.now.options.now r w c.deref.result.now c.new-edges.result.left.now parts
+    (seen r _ _ read c.deref.ensures.value) c.in_ok-parts.ensures.ok c.new-edges.ensures c.in_ok-run_watched.ensures.ok

@@ -1,0 +1,148 @@
+-- How what a command line asks for ends: it is done, or it fails for a reason.
+use Rattle.std.specs.Prelude.{◌≡◌, ◌≢◌, ◌⊎◌, ℕ, List, [], ◌∷◌}
+use Rattle.std.specs.Io.KnownBytes.{Keeps}
+use Rattle.clap.specs.Words.{Text}
+use Rattle.clap.specs.declared.error.kind.ErrorKind.{ErrorKind}
+use Rattle.clap.specs.declared.error.kind.ErrorKind.TheVariants as kind
+use Rattle.ball_model.specs.Streams.{RisesByOne}
+use Rattle.edgelist.specs.Job.{settings_of}
+use Rattle.hyperball.specs.Nodes.{AsksGather, AsksNode}
+use Rattle.hyperball.specs.Refusals.{DoesJob, FailsJob}
+use Rattle.hyperball.specs.Replaying.{BeginsSome, DoesReplay, FailsReplay}
+use Rattle.hyperball.specs.Streams.{AppendsSome, KeptOrFailed, Reads, Untouched, Writes}
+use Rattle.hyperball.specs.Whole.{ReadsFew}
+use Rattle.hyperball.specs.Wishes.{ReadsAll, Says, SaysOrders}
+use Rattle.hyperball.specs.Words.{AreMistakes, HasFaults, HasNoLists, HasOrders}
+use Rattle.hyperball.specs.declared.cli.Wish.{Wish}
+use Rattle.hyperball.specs.declared.cli.Wish.TheVariants as wish
+use Rattle.hyperball.specs.declared.cli.gather.GatherWords.{GatherWords}
+use Rattle.hyperball.specs.declared.cli.one_node.NodeWords.{NodeWords}
+use Rattle.hyperball.specs.declared.cli.run.RunFault.{RunFault}
+use Rattle.hyperball.specs.declared.cli.run.RunFault.TheVariants as unrun
+use Rattle.hyperball.specs.declared.cli.run.RunWords.{RunWords}
+use Rattle.node.specs.Gathering.{GathersJob}
+use Rattle.node.specs.NoJob.{HasNoNode}
+use Rattle.node.specs.NoReport.{HasNoReport, IsUnwritten, WritesFrontOfJob}
+use Rattle.node.specs.Serving.{IsOfMachine, ServesNode, StopsNode, WantsNode}
+use Rattle.node.specs.declared.error.GatherError.{GatherError}
+use Rattle.node.specs.declared.error.GatherError.TheVariants as gather
+use Rattle.node.specs.declared.error.JobInputError.{JobInputError}
+use Rattle.node.specs.declared.error.JobInputError.TheVariants as job
+use Rattle.node.specs.declared.error.ServeError.{ServeError}
+use Rattle.node.specs.declared.error.ServeError.TheVariants as answer
+use Rattle.node.specs.declared.error.ServeNodeError.{ServeNodeError}
+use Rattle.node.specs.declared.error.ServeNodeError.TheVariants as node
+
+-- ---- done
+-- the node has answered its commands, and no call failed
+pub record DoesNode (v : NodeWords) (r : Reads) (w : Writes) : Type 0 where
+  pub served : ServesNode (settings_of v.job.options) v.job.counted v.part
+      r.bytes.old r.bytes.new w.contents.old w.contents.new
+  pub read : r.failed.new ≡ r.failed.old
+  pub written : w.failed.new ≡ w.failed.old
+
+-- the report of the checkpoints was appended, and no call failed
+pub record DoesGather (v : GatherWords) (r : Reads) (w : Writes) : Type 0 where
+  pub gathered : GathersJob (settings_of v.job.options) v.job.counted
+      r.bytes.old r.bytes.new w.contents.old w.contents.new
+  pub read : r.failed.new ≡ r.failed.old
+  pub written : w.failed.new ≡ w.failed.old
+
+-- what was asked for is done
+abbrev pub Does : Wish → Reads → Writes → Type 0
+Does (wish.Run v) r w = DoesJob v.options v.counted r w
+Does (wish.Replay v) r w = DoesReplay v r w
+Does (wish.Node v) r w = DoesNode v r w
+Does (wish.Gather v) r w = DoesGather v r w
+
+-- ---- failed
+-- a run ends with this fault: before anything is read, or in its job
+abbrev pub FailsRun : RunWords → Reads → Writes → RunFault → Type 0
+FailsRun v r w unrun.Gate = Untouched r w
+FailsRun v r w unrun.Random = Untouched r w
+FailsRun v r w (unrun.Job e) = FailsJob v.options v.counted r w e
+
+-- a node ends with this fault: which it is of the job or of its requests, what was answered before, and which calls failed
+pub record FailsNode (v : NodeWords) (r : Reads) (w : Writes) (f : ServeNodeError) : Type 0 where
+  pub jobless : (e : JobInputError) → f ≡ node.Job e →
+      HasNoNode (settings_of v.job.options) v.job.counted v.part r.bytes.old r.bytes.new e
+      × Keeps w.contents.old w.contents.new
+  pub stopped : (e : ServeError) → f ≡ node.Serve e → (IsOfMachine e → ⊥) →
+      StopsNode (settings_of v.job.options) v.job.counted v.part e r.bytes.old r.bytes.new
+      w.contents.old w.contents.new
+  pub wanting : f ≡ node.Serve answer.Memory →
+      WantsNode (settings_of v.job.options) v.job.counted v.part r.bytes.old r.bytes.new
+  pub read : f ≡ node.Serve answer.Read → RisesByOne r.failed.old r.failed.new
+  pub read_job : f ≡ node.Job job.Read → RisesByOne r.failed.old r.failed.new
+  pub counted : f ≢ node.Serve answer.Read → f ≢ node.Job job.Read → r.failed.new ≡ r.failed.old
+  pub write : f ≡ node.Serve answer.Write → RisesByOne w.failed.old w.failed.new
+  pub written : f ≢ node.Serve answer.Write → w.failed.new ≡ w.failed.old
+
+-- a gathering ends with this fault: which it is, what was written before, and which calls failed
+pub record FailsGather (v : GatherWords) (r : Reads) (w : Writes) (f : GatherError) : Type 0 where
+  pub refused : HasNoReport (settings_of v.job.options) v.job.counted r.bytes.old r.bytes.new f
+  pub kept : IsUnwritten f → Keeps w.contents.old w.contents.new
+  pub front : WritesFrontOfJob (settings_of v.job.options) v.job.counted
+      r.bytes.old r.bytes.new w.contents.old w.contents.new
+  pub read : f ≡ gather.Read → RisesByOne r.failed.old r.failed.new
+  pub read_job : f ≡ gather.Job job.Read → RisesByOne r.failed.old r.failed.new
+  pub counted : f ≢ gather.Read → f ≢ gather.Job job.Read → r.failed.new ≡ r.failed.old
+  pub write : f ≡ gather.Write → RisesByOne w.failed.old w.failed.new
+  pub written : f ≢ gather.Write → w.failed.new ≡ w.failed.old
+
+-- it ends with some fault
+pub record FailsSo {F : Type 0} (Fails : F → Type 0) : Type 0 where
+  pub fault : F
+  pub due : Fails fault
+
+-- a wish fails for a reason of its own
+abbrev pub FailsAlone : Wish → Reads → Writes → Type 0
+FailsAlone (wish.Run v) r w = FailsSo (FailsRun v r w)
+FailsAlone (wish.Replay v) r w = FailsSo (FailsReplay v r w)
+FailsAlone (wish.Node v) r w = FailsSo (FailsNode v r w)
+FailsAlone (wish.Gather v) r w = FailsSo (FailsGather v r w)
+
+-- a wish fails: there are no random words, or it has a reason of its own
+abbrev pub FailsWish : Wish → Reads → Writes → Type 0
+FailsWish x r w = Untouched r w ⊎ FailsAlone x r w
+
+-- what these words ask for fails, with the lists of orders in them
+pub record Fails (words : List Text) (asked : Wish) (r : Reads) (w : Writes) : Type 0 where
+  pub found : Wish
+  pub says : Says asked found
+  pub orders : SaysOrders words found
+  pub fails : FailsWish found r w
+
+-- no command was begun: nothing was read, and the writer has what it had, or a call of it failed
+pub record BeginsNothing (r : Reads) (w : Writes) : Type 0 where
+  pub unread : r.bytes.new ≡ r.bytes.old
+  pub kept : KeptOrFailed w
+
+-- ---- ends
+-- words that ask for this end with this status: 0 where it is done, and 1 from a fault or where memory is refused before
+-- it begins
+pub record Ends (words : List Text) (asked : Wish) (status : ℕ) (r : Reads) (w : Writes) :
+    Type 0 where
+  pub done : status ≡ 0 → Does asked r w
+  pub fault : status ≡ 1 → BeginsNothing r w ⊎ Fails words asked r w
+  pub few : ReadsAll asked → ReadsFew r.bytes.old r.bytes.new
+
+-- words in which clap finds these faults end with this status: mistakes with 2, or with 1 where memory is refused; help
+-- and the version with 0 or 1, and with 0 something is written
+pub record EndsRefused (kinds : List ErrorKind) (status : ℕ) (w : Writes) : Type 0 where
+  pub mistaken : AreMistakes kinds → (status ≡ 2) ⊎ (status ≡ 1)
+  pub help : kinds ≡ kind.DisplayHelp ∷ [] → (status ≡ 0) ⊎ (status ≡ 1)
+  pub version : kinds ≡ kind.DisplayVersion ∷ [] → (status ≡ 0) ⊎ (status ≡ 1)
+  pub some : kinds ≢ [] → status ≡ 0 → AppendsSome w.contents.old w.contents.new
+
+-- words that end with status 2: nothing is written, and where clap accepts them a list of orders is not of its form
+pub record EndsMistaken (words : List Text) (w : Writes) : Type 0 where
+  pub kept : Keeps w.contents.old w.contents.new
+  pub orders : HasFaults words [] → HasOrders words
+  pub misspelt : HasFaults words [] → HasNoLists words
+
+-- what status 1 leaves: the writer has what it had, or a call of it failed; or the words ask for a replay, of which it has
+-- a beginning, or for a node or a gathering
+abbrev pub LeavesFault : List Text → Reads → Writes → Type 0
+LeavesFault words r w =
+    KeptOrFailed w ⊎ (BeginsSome words r w ⊎ (AsksNode words ⊎ AsksGather words))

@@ -1,0 +1,117 @@
+//! The lines of progress.
+
+use ball_model::NodeId;
+use std::fmt;
+use std::fmt::Display;
+
+/// A line of progress.
+#[derive(Clone, Copy, Debug)]
+pub enum News {
+    /// No plan has this log2m, whatever the graph.
+    NoLog2m {
+        log2m: u8,
+    },
+    /// No plan has so many partitions.
+    NoParts {
+        parts: u16,
+    },
+    /// No plan has this limit.
+    NoLimit {
+        limit: u32,
+    },
+    /// So many records of an edge list are read so far.
+    Reading {
+        records: u64,
+    },
+    /// An edge list is read, of so many records and vertices.
+    Read {
+        records: u64,
+        vertices: u32,
+    },
+    /// A first node stands at superstep 0.
+    Start,
+    /// All partitions have come to a superstep, at which so many of all vertices changed.
+    Superstep {
+        superstep: u32,
+        changed: u64,
+        vertices: u32,
+    },
+    /// A node has gone on to a superstep, at which so many of its partition's vertices changed.
+    Close {
+        node: NodeId,
+        superstep: u32,
+        changed: u32,
+        vertices: u32,
+    },
+    /// The report is written.
+    Report,
+    /// The answers are written.
+    Answers,
+    /// All commands are answered.
+    Commands,
+}
+
+impl Display for News {
+    ghost use Rattle.std.specs.Prelude.{Some};
+    ghost use Rattle.hyperball.specs.Progress.{news_line};
+
+    ghost output = { λ news. Some (news_line news) };
+
+    fn fmt<W: fmt::Write>(&self, f: &mut fmt::Formatter<W>) -> fmt::Result {
+        match *self {
+            News::NoLog2m { log2m } => {
+                write!(
+                    f,
+                    "hyperball: no plan has log2m {log2m} (4 to 10 are allowed): the job will be refused once the edge list is read"
+                )
+            }
+            News::NoParts { parts } => {
+                write!(
+                    f,
+                    "hyperball: no plan has parts {parts} (1 to 64 are allowed): the job will be refused once the edge list is read"
+                )
+            }
+            News::NoLimit { limit } => {
+                write!(
+                    f,
+                    "hyperball: no plan has limit {limit} (1 to 4096 are allowed): the job will be refused once the edge list is read"
+                )
+            }
+            News::Reading { records } => {
+                write!(f, "hyperball: {records} records are read so far")
+            }
+            News::Read { records, vertices } => {
+                write!(
+                    f,
+                    "hyperball: {records} records and {vertices} vertices are read"
+                )
+            }
+            News::Start => write!(f, "hyperball: the supersteps begin"),
+            News::Superstep {
+                superstep,
+                changed,
+                vertices,
+            } => {
+                write!(
+                    f,
+                    "hyperball: superstep {superstep}, {changed} of {vertices} vertices changed"
+                )
+            }
+            News::Close {
+                node,
+                superstep,
+                changed,
+                vertices,
+            } => {
+                let NodeId { part, replica } = node;
+                write!(
+                    f,
+                    "hyperball: node {part}.{replica} at superstep {superstep}, {changed} of its {vertices} vertices changed"
+                )
+            }
+            News::Report => write!(f, "hyperball: the report is written"),
+            News::Answers => write!(f, "hyperball: the answers are written"),
+            News::Commands => write!(f, "hyperball: the commands are answered"),
+        }
+    }
+}

@@ -1,7 +1,0 @@
-use Rattle.ball_model.specs.Caller.{CalledNothing, Extends}
-use Rattle.workers.proofs.superstep.has_grown.Given as goal
-
-abbrev pub invariant-loop : goal.invariant-loop
-invariant-loop g l =
-    Extends (g.E.Exchange.caller l.fn.exchange) (g.E.Exchange.caller l.exchange)
-    × CalledNothing (g.E.Exchange.caller l.fn.exchange) (g.E.Exchange.caller l.exchange)

@@ -1,0 +1,347 @@
+//! Runs, each from bytes to bytes: a thread for each node, and more of them in large supersteps and for the figures.
+
+ghost use Rattle.std.specs.Prelude.{◌≡◌, ◌≢◌, Err, true, false, OnOk, OnErr, IfOk, IfErr, IsOk};
+ghost use Rattle.std.specs.Io.KnownBytes.{Appends, Keeps};
+ghost use Rattle.ball_model.specs.Job.{IsJob, job_of};
+ghost use Rattle.ball_model.specs.PlanValue.{mixing_of};
+ghost use Rattle.ball_model.specs.Report.{report_of};
+ghost use Rattle.ball_model.specs.RunText.{IsReport, network_in};
+ghost use Rattle.ball_model.specs.Streams.{Rises, RisesByOne};
+ghost use Rattle.edgelist.specs.Job.{numbers_of, settings_of};
+ghost use Rattle.edgelist.specs.Reading.{CountsOne};
+ghost use Rattle.edgelist.specs.Records.{ForPlain};
+ghost use Rattle.workers.specs.declared.ends.JobError.{JobError as NodesFault};
+ghost use Rattle.workers.specs.Job.{AreDone, AreParts, IsFaultOf, IsFirstFault};
+ghost use Rattle.workers.specs.Options.{are_in_limits, run_job};
+ghost use Rattle.workers.specs.Run.{AddsReport, AnswersNetwork, HasFirstFault, IsFaultIn};
+ghost use Rattle.workers.specs.Run.{IsRunFault, IsRunRefusal, RefusesEdges, WherePlain, job_fault};
+
+use crate::ends::JobError;
+use crate::gate::{Gate, UnwatchedGate};
+use crate::job::run_job;
+use crate::options::RunOptions;
+use crate::planned::{Planned, plan_parts};
+use ball_model::{CountedRead, CountedWrite, CountingWriter, NodeId, Plan, PlanError};
+use edgelist::{CountedError, EdgeError, Graph, NetworkError, Watch};
+use replica::Replica;
+use report::{Pages, write_report_by};
+use std::alloc::{AllocError, AllocGlobal};
+use std::hash::RandomState;
+use std::sync::Wait;
+use std::thread::Threads;
+use thiserror::Error;
+
+/// Why a run gives no report, in the order of the checks.
+#[derive(Clone, Copy, Debug, PartialEq, Eq, Error)]
+pub enum RunError {
+    /// Replicas, entries, keep or patience are out of their limits, or an order names no node of the run.
+    #[error("an option does not fit the job")]
+    Options,
+    /// The edge list is refused.
+    #[error(transparent)]
+    Edges(EdgeError),
+    /// The list of counted vertices is refused.
+    #[error(transparent)]
+    Counted(CountedError),
+    /// There is no such plan.
+    #[error(transparent)]
+    Plan(PlanError),
+    /// Every node of the partition was lost. It is the least such partition.
+    #[error("every replica of partition {part} was lost")]
+    PartitionLost {
+        part: u16,
+    },
+    /// A node found the book full.
+    #[error("the book is full")]
+    BookFull,
+    /// Memory was refused, or a thread.
+    #[error("out of memory")]
+    Memory,
+    /// A node waited in vain. It is the least such node.
+    #[error("node {}.{} waited in vain at superstep {superstep} for partition {source}", .node.part, .node.replica)]
+    Starved {
+        node: NodeId,
+        superstep: u32,
+        source: u16,
+    },
+    /// A write failed.
+    #[error("the output cannot be written")]
+    Write,
+}
+
+impl From<NetworkError> for RunError {
+    ghost use Rattle.workers.specs.Run.{network_fault};
+
+    ghost from_gives = { λ fault e. e ≡ network_fault fault };
+
+    fn from(fault: NetworkError) -> RunError {
+        match fault {
+            NetworkError::Edges(fault) => RunError::Edges(fault),
+            NetworkError::Counted(fault) => RunError::Counted(fault),
+        }
+    }
+}
+
+impl From<PlanError> for RunError {
+    ghost use Rattle.workers.specs.declared.runs.RunError.TheVariants.{Plan};
+
+    ghost from_gives = { λ fault e. e ≡ Plan fault };
+
+    fn from(fault: PlanError) -> RunError {
+        RunError::Plan(fault)
+    }
+}
+
+impl From<AllocError> for RunError {
+    ghost use Rattle.workers.specs.declared.runs.RunError.TheVariants.{Memory};
+
+    ghost from_gives = { λ _ e. e ≡ Memory };
+
+    fn from(_fault: AllocError) -> RunError {
+        RunError::Memory
+    }
+}
+
+impl From<JobError> for RunError {
+    ghost use Rattle.workers.specs.Run.{job_fault};
+
+    ghost from_gives = { λ fault e. e ≡ job_fault fault };
+
+    fn from(fault: JobError) -> RunError {
+        match fault {
+            JobError::PartitionLost { part } => RunError::PartitionLost { part },
+            JobError::BookFull => RunError::BookFull,
+            JobError::Memory => RunError::Memory,
+            JobError::Starved {
+                node,
+                superstep,
+                source,
+            } => RunError::Starved {
+                node,
+                superstep,
+                source,
+            },
+        }
+    }
+}
+
+// The text of the report of replicas at the end of their run, by at most so many threads; by all processors where 0 are
+// asked for. The error is that memory was refused.
+fn replicas_text<T: AllocGlobal + Threads + Sync>(
+    rt: &T,
+    graph: &Graph,
+    plan: &Plan,
+    replicas: &[Replica],
+    threads: usize,
+) -> Result<Pages, AllocError>
+    requires job { IsJob (job_of graph.now.graph plan.now) }
+    requires done { AreDone (job_of graph.now.graph plan.now) replicas.now }
+    ensures { IfOk result (λ text. text ≡
+        report_of (mixing_of plan.now) graph.now.graph graph.now.labels plan.now.limit) }
+{
+    let mut text = CountingWriter::new(Pages::new(rt.alloc()));
+    match write_report_by(rt, &mut text, graph, replicas, threads) {
+        Ok(()) => Ok(text.into_inner()),
+        Err(_) => Err(AllocError),
+    }
+}
+
+// A run that is watched: what is asked of it, and what its calls work with.
+#[derive(Clone, Copy)]
+struct WatchedRun<'a, T, G> {
+    rt: &'a T,
+    options: &'a RunOptions,
+    gate: &'a G,
+}
+
+impl<'a, T: AllocGlobal + Threads + Wait + Sync, G: Gate + Watch + Sync> WatchedRun<'a, T, G> {
+    // The text of the report of a graph under a plan.
+    fn planned_text(&self, graph: &Graph, planned: Planned) -> Result<Pages, JobError>
+        requires job { IsJob (job_of graph.now.graph planned.plan) }
+        requires parts { AreParts (job_of graph.now.graph planned.plan) planned.parts.items }
+        requires limits { are_in_limits self.now.options.now ≡ true }
+        ensures ok { IfOk result (λ text. text ≡ report_of
+            (mixing_of planned.plan) graph.now.graph graph.now.labels planned.plan.limit) }
+        ensures fault { IfErr result (IsFaultOf planned.plan.parts self.now.options.now) }
+        ensures first { IfErr result (λ e. e ≢ JobError.Memory →
+            IsFirstFault (job_of graph.now.graph planned.plan) self.now.options.now e) }
+    {
+        let plan = planned.plan;
+        let replicas = run_job(self.rt, graph, planned, self.options, self.gate)?;
+        let threads = usize::from(self.options.threads);
+        let text = replicas_text(self.rt, graph, &plan, &replicas, threads)?;
+        Ok(text)
+    }
+
+    // The text of the report of a graph.
+    fn graph_text(&self, graph: &Graph) -> Result<Pages, RunError>
+        requires limits { are_in_limits self.now.options.now ≡ true }
+        ensures answer { AnswersNetwork (numbers_of (run_job self.now.options.now)) graph.now result }
+        ensures fault { IfErr result (IsFaultIn self.now.options.now) }
+        ensures first { (f : NodesFault) → f ≢ JobError.Memory → result ≡ Err (job_fault f) →
+            HasFirstFault self.now.options.now graph.now f }
+    {
+        let job = self.options.job();
+        let bare = job.bare_plan(graph)?;
+        let planned = plan_parts(self.rt, graph, &bare)?;
+        let text = self.planned_text(graph, planned)?;
+        Ok(text)
+    }
+
+    // Runs the job of what is read, and gives the text of its report.
+    fn run_text<R: CountedRead>(
+        &self,
+        state: RandomState,
+        reader: &mut R,
+        counted: Option<&[u8]>,
+    ) -> Result<Pages, RunError>
+        ensures limits { are_in_limits self.now.options.now ≡ false →
+            result ≡ Err RunError.Options }
+        ensures ok { WherePlain self.now.options.now (R.remaining reader.old) counted.entry
+            (λ s input list. IfOk result (IsReport s input list)) }
+        ensures refused { WherePlain self.now.options.now (R.remaining reader.old) counted.entry
+            (λ s input list. IfErr result (IsRunRefusal s input list)) }
+        ensures edges { ForPlain (R.remaining reader.old) (λ input.
+            OnOk result (IsOk (network_in (settings_of (run_job self.now.options.now)) input))) }
+        ensures of_edges { ForPlain (R.remaining reader.old) (λ input.
+            IfErr result (RefusesEdges (settings_of (run_job self.now.options.now)) input)) }
+        ensures kind { IfErr result (λ e. e ≢ RunError.Write) }
+        ensures read { result ≡ Err (RunError.Edges EdgeError.Read) →
+            Rises (R.failed_calls reader.old) (R.failed_calls reader.new) }
+        ensures failed { CountsOne (R.failed_calls reader.old) (R.failed_calls reader.new) →
+            result ≡ Err (RunError.Edges EdgeError.Read) }
+        ensures fault { IfErr result (IsFaultIn self.now.options.now) }
+        ensures first { (f : NodesFault) → f ≢ JobError.Memory → result ≡ Err (job_fault f) →
+            WherePlain self.now.options.now (R.remaining reader.old) counted.entry
+            (λ s input list. IsRunFault self.now.options.now s input list f) }
+    {
+        if !self.options.are_in_limits() {
+            return Err(RunError::Options);
+        }
+        let job = self.options.job();
+        let read = job.read_network_by(self.rt, self.gate, state, reader, counted)?;
+        self.gate.after_read(read.records, read.graph.vertices());
+        self.graph_text(&read.graph)
+    }
+}
+
+// Writes a text.
+fn write_text<W: CountedWrite>(writer: &mut W, text: &Pages) -> Result<(), RunError>
+    ensures done { OnOk result (Appends (W.contents writer.old) (W.contents writer.new) text.now) }
+    ensures kind { IfErr result (λ e. e ≡ RunError.Write) }
+    ensures counted { OnOk result (W.failed_calls writer.new ≡ W.failed_calls writer.old) }
+    ensures failed { OnErr result (
+        RisesByOne (W.failed_calls writer.old) (W.failed_calls writer.new)) }
+{
+    if text.write_to(writer) {
+        Ok(())
+    } else {
+        Err(RunError::Write)
+    }
+}
+
+/// Reads an edge list and writes its report. A thread for each replica of each partition makes the supersteps; where many
+/// vertices changed, it shares the work with others, so that together they use as many as the options say. So many make
+/// the figures, once these have ended.
+///
+/// With a list of `counted` vertices only those are counted; the list is read after the edge list, and its lines are as
+/// there, one label in each. The report is built in memory and then written, so nothing is written unless the answer is
+/// Ok or `Write`. `Edges(Read)` is answered where a call of the reader failed (while failures can be counted) and
+/// nowhere else, `Write` exactly where one of the writer did. What is said of the input holds for plain bytes: an LF after
+/// each CR. (That no failed call of the reader is made again is written so, and no clause says it.)
+/// Several threads ask for some MiB beyond a record that is refused, and answer `Edges(Read)` if that fails.
+///
+/// In this order: `Options`, before anything is read; `Edges`, `Counted` and `Plan`; where some partition has no node
+/// that reached the end `PartitionLost`, `BookFull`, `Memory` and `Starved`, the first that the nodes' ends give; then
+/// `Write`. `Memory` is also answered where the run's own growth is refused, of the report's text too. Which of the
+/// nodes' faults it is may depend on the schedule, but the report does not: it is that of the input, whatever nodes were
+/// lost or started anew.
+///
+/// Memory is some two times 2^log2m bytes and 40 bytes of figures and weights a vertex and replica; where snapshots are
+/// kept, 2^log2m and 32 bytes more, and of each snapshot the accumulators where what is heard has raised a row; 4 bytes a
+/// vertex and an edge of the index that says whom an edge leads to; where there are several partitions, the rows that
+/// changed, in up to three tables, and in all of the run where a snapshot of each superstep is not kept; the graph and its
+/// parts; and the report.
+///
+/// For a library's user: the program calls [`run_watched`].
+pub fn run<T: AllocGlobal + Threads + Wait + Sync, R: CountedRead, W: CountedWrite, G: Gate + Sync>(
+    rt: &T,
+    state: RandomState,
+    reader: &mut R,
+    counted: Option<&[u8]>,
+    writer: &mut W,
+    options: &RunOptions,
+    gate: &G,
+) -> Result<(), RunError>
+    ensures ok { OnOk result (WherePlain options.now (R.remaining reader.old) counted.entry
+        (AddsReport W.contents writer.old writer.new)) }
+    ensures refused { WherePlain options.now (R.remaining reader.old) counted.entry
+        (λ s input list. IfErr result (IsRunRefusal s input list)) }
+    ensures edges { ForPlain (R.remaining reader.old) (λ input.
+        OnOk result (IsOk (network_in (settings_of (run_job options.now)) input))) }
+    ensures of_edges { ForPlain (R.remaining reader.old) (λ input.
+        IfErr result (RefusesEdges (settings_of (run_job options.now)) input)) }
+    ensures read { result ≡ Err (RunError.Edges EdgeError.Read) →
+        Rises (R.failed_calls reader.old) (R.failed_calls reader.new) }
+    ensures failed { CountsOne (R.failed_calls reader.old) (R.failed_calls reader.new) →
+        result ≡ Err (RunError.Edges EdgeError.Read) }
+    ensures write { result ≡ Err RunError.Write →
+        RisesByOne (W.failed_calls writer.old) (W.failed_calls writer.new) }
+    ensures written { result ≢ Err RunError.Write →
+        W.failed_calls writer.new ≡ W.failed_calls writer.old }
+    ensures limits { are_in_limits options.now ≡ false → result ≡ Err RunError.Options }
+    ensures fault { IfErr result (IsFaultIn options.now) }
+    ensures first { (f : NodesFault) → f ≢ JobError.Memory → result ≡ Err (job_fault f) →
+        WherePlain options.now (R.remaining reader.old) counted.entry
+        (λ s input list. IsRunFault options.now s input list f) }
+    ensures untouched { IfErr result (λ e. e ≢ RunError.Write →
+        Keeps (W.contents writer.old) (W.contents writer.new)) }
+{
+    let gate = UnwatchedGate::new(gate);
+    run_watched(rt, state, reader, counted, writer, options, &gate)
+}
+
+/// Makes a run as [`run`] says, by a gate that is also told how it gets on: while several threads read the edge
+/// list and once it is read, once each node's first replica is made, and where a node has gone on.
+pub fn run_watched<
+    T: AllocGlobal + Threads + Wait + Sync,
+    R: CountedRead,
+    W: CountedWrite,
+    G: Gate + Watch + Sync,
+>(
+    rt: &T,
+    state: RandomState,
+    reader: &mut R,
+    counted: Option<&[u8]>,
+    writer: &mut W,
+    options: &RunOptions,
+    gate: &G,
+) -> Result<(), RunError>
+    ensures ok { OnOk result (WherePlain options.now (R.remaining reader.old) counted.entry
+        (AddsReport W.contents writer.old writer.new)) }
+    ensures refused { WherePlain options.now (R.remaining reader.old) counted.entry
+        (λ s input list. IfErr result (IsRunRefusal s input list)) }
+    ensures edges { ForPlain (R.remaining reader.old) (λ input.
+        OnOk result (IsOk (network_in (settings_of (run_job options.now)) input))) }
+    ensures of_edges { ForPlain (R.remaining reader.old) (λ input.
+        IfErr result (RefusesEdges (settings_of (run_job options.now)) input)) }
+    ensures read { result ≡ Err (RunError.Edges EdgeError.Read) →
+        Rises (R.failed_calls reader.old) (R.failed_calls reader.new) }
+    ensures failed { CountsOne (R.failed_calls reader.old) (R.failed_calls reader.new) →
+        result ≡ Err (RunError.Edges EdgeError.Read) }
+    ensures write { result ≡ Err RunError.Write →
+        RisesByOne (W.failed_calls writer.old) (W.failed_calls writer.new) }
+    ensures written { result ≢ Err RunError.Write →
+        W.failed_calls writer.new ≡ W.failed_calls writer.old }
+    ensures limits { are_in_limits options.now ≡ false → result ≡ Err RunError.Options }
+    ensures fault { IfErr result (IsFaultIn options.now) }
+    ensures first { (f : NodesFault) → f ≢ JobError.Memory → result ≡ Err (job_fault f) →
+        WherePlain options.now (R.remaining reader.old) counted.entry
+        (λ s input list. IsRunFault options.now s input list f) }
+    ensures untouched { IfErr result (λ e. e ≢ RunError.Write →
+        Keeps (W.contents writer.old) (W.contents writer.new)) }
+{
+    let run = WatchedRun { rt, options, gate };
+    let text = run.run_text(state, reader, counted)?;
+    write_text(writer, &text)
+}

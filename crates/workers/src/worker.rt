@@ -1,0 +1,16 @@
+//! A node at work.
+
+use crate::node::NodeOrders;
+use ball_model::NodeId;
+
+/// A node at work: which one it is, what it is told to do, and what it works with. Its replica and its place at the board
+/// are lent to each call.
+#[derive(Clone, Copy)]
+pub struct Worker<'a, R, G> {
+    pub rt: &'a R,
+    pub gate: &'a G,
+    pub node: NodeId,
+    pub orders: NodeOrders,
+    /// How many threads close a superstep at most.
+    pub threads: usize,
+}
