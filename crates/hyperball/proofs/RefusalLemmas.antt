@@ -56,6 +56,7 @@ reports_listed o r w bytes first p read found is appended =
         within = λ _. read.within;
       });
       unfailed = λ one. read.unfailed one.1;
+      listed = λ yes rises. read.unfailed rises;
     }
 
 -- the input was not read whole
@@ -125,6 +126,7 @@ pub reports_unlisted : (o : RunOptions) (counted : Bool) (r : Reads) (w : Writes
 reports_unlisted o counted r w none done unfailed = subst (λ (b : Bool). DoesJob o b r w) (sym none) (record {
   reported = reports_input (settings_of (run_job o)) r.bytes.old w.contents.old w.contents.new done;
   unfailed = unfailed;
+  listed = λ yes rises. absurd (cc);
 })
 
 refuses_input : (s : Settings) (o : Option (List ℕ)) (e : RunError) → ForPlain o (λ input. RefusesEdges s input e) → IfSome o (λ input. ArePlain input None → IsRunRefusal s input None e) →

@@ -52,7 +52,7 @@ wish_leaves words x r w asks (inr fails) = alone_leaves words x r w asks fails
 -- a wish that is this one does what this one does
 done_run : (w v : RunWords) (r : Reads) (x : Writes) → with_lists_of w v ≡ w → DoesJob v.options v.counted r x → DoesJob w.options w.counted r x
 done_run w v r x says done =
-    subst (λ (u : RunWords). DoesJob u.options u.counted r x) says (record { reported = done.reported; unfailed = done.unfailed })
+    subst (λ (u : RunWords). DoesJob u.options u.counted r x) says (record { reported = done.reported; unfailed = done.unfailed; listed = done.listed })
 
 pub says_done : (a x : Wish) (r : Reads) (w : Writes) → Says a x → Does x r w → Does a r w
 says_done (wish.Run a) (wish.Run v) r w says done = done_run a v r w says done

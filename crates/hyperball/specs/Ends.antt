@@ -20,6 +20,8 @@ use Rattle.hyperball.specs.declared.cli.one_node.NodeWords.{NodeWords}
 use Rattle.hyperball.specs.declared.cli.run.RunFault.{RunFault}
 use Rattle.hyperball.specs.declared.cli.run.RunFault.TheVariants as unrun
 use Rattle.hyperball.specs.declared.cli.run.RunWords.{RunWords}
+use Rattle.hyperball.specs.declared.serve.Fault.{Fault}
+use Rattle.hyperball.specs.declared.serve.Fault.TheVariants as unserved
 use Rattle.node.specs.Gathering.{GathersJob}
 use Rattle.node.specs.NoJob.{HasNoNode}
 use Rattle.node.specs.NoReport.{HasNoReport, IsUnwritten, WritesFrontOfJob}
@@ -89,6 +91,15 @@ pub record FailsGather (v : GatherWords) (r : Reads) (w : Writes) (f : GatherErr
   pub counted : f ≢ gather.Read → f ≢ gather.Job job.Read → r.failed.new ≡ r.failed.old
   pub write : f ≡ gather.Write → RisesByOne w.failed.old w.failed.new
   pub written : f ≢ gather.Write → w.failed.new ≡ w.failed.old
+
+-- a wish fails with this: there are no random words, and nothing was read or written; or the fault is its command's own
+abbrev pub FailsBy : Wish → Reads → Writes → Fault → Type 0
+FailsBy x r w unserved.Random = Untouched r w
+FailsBy (wish.Run v) r w (unserved.Run f) = FailsRun v r w f
+FailsBy (wish.Replay v) r w (unserved.Replay f) = FailsReplay v r w f
+FailsBy (wish.Node v) r w (unserved.Node f) = FailsNode v r w f
+FailsBy (wish.Gather v) r w (unserved.Gather f) = FailsGather v r w f
+FailsBy x r w f = ⊥
 
 -- it ends with some fault
 pub record FailsSo {F : Type 0} (Fails : F → Type 0) : Type 0 where

@@ -27,12 +27,13 @@ pub record Reports (s : Settings) (counted : Bool) (input : List ℕ) (old new :
       AppendsReport s parts.edges parts.list old new
   pub within : counted ≡ true → length input ≤ MOST_BYTES
 
--- a run by these options is done: the report was appended, and no call of the reader failed (while failures can be
--- counted)
+-- a run by these options is done: the report was appended, and no call of the reader failed (without a list, while
+-- failures can be counted)
 pub record DoesJob (o : RunOptions) (counted : Bool) (r : Reads) (w : Writes) : Type 0 where
   pub reported : IfSome r.bytes.old (λ input.
       Reports (settings_of (run_job o)) counted input w.contents.old w.contents.new)
   pub unfailed : CountsOne r.failed.old r.failed.new → ⊥
+  pub listed : counted ≡ true → Rises r.failed.old r.failed.new → ⊥
 
 -- this error is told of the edge list and the list of counted vertices in the input, where these are plain: it comes
 -- only where all checks before it passed; and where the edge list alone is, it says of that what it has to

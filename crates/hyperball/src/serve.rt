@@ -1,11 +1,11 @@
 //! From words and bytes to bytes and a status.
 
-ghost use Rattle.std.specs.Prelude.{◌≡◌, ◌≢◌, ◌≤◌, ◌⊎◌, ◌∷◌, [], List, false, IfSome, None, OnErr};
+ghost use Rattle.std.specs.Prelude.{◌≡◌, ◌≢◌, ◌≤◌, ◌⊎◌, ◌∷◌, [], List, false, IfErr, IfSome, None};
 ghost use Rattle.std.specs.Prelude.{OnOk, Option, ℕ};
 ghost use Rattle.std.specs.Io.KnownBytes.{Appends, Keeps};
 ghost use Rattle.clap.specs.Words.{kind_of};
 ghost use Rattle.clap.specs.declared.error.kind.ErrorKind.TheVariants as kind;
-ghost use Rattle.hyperball.specs.Ends.{Does, Ends, EndsMistaken, EndsRefused, FailsWish};
+ghost use Rattle.hyperball.specs.Ends.{Does, Ends, EndsMistaken, EndsRefused, FailsBy, FailsWish};
 ghost use Rattle.hyperball.specs.Ends.{LeavesFault};
 ghost use Rattle.hyperball.specs.Progress.{Awaits, TellsAsAsked, TellsProgress};
 ghost use Rattle.hyperball.specs.Streams.{AppendsSome, KeptOrFailed, reads_of, writes_of};
@@ -201,7 +201,7 @@ fn fulfil<
     ensures done { OnOk result (Does wish
         (reads_of R.remaining R.failed_calls R.sure_calls reader.old reader.new)
         (writes_of W.contents W.failed_calls writer.old writer.new)) }
-    ensures fault { OnErr result (FailsWish wish
+    ensures fault { IfErr result (FailsBy wish
         (reads_of R.remaining R.failed_calls R.sure_calls reader.old reader.new)
         (writes_of W.contents W.failed_calls writer.old writer.new)) }
     ensures few { ReadsAll wish → ReadsFew (R.remaining reader.old) (R.remaining reader.new) }

@@ -431,6 +431,47 @@ fn run_job<
     Ok(())
 }
 
+// A run of these words by a gate, once there are random words.
+fn run_gated<
+    H: AllocGlobal + Clock + RandomSource + Threads + Wait + Sync,
+    T: Teller + Sync,
+    R: CountedRead,
+    W: CountedWrite,
+>(
+    rt: &H,
+    gate: &TellingGate<'_, H, T>,
+    words: &RunWords,
+    reader: &mut R,
+    writer: &mut W,
+) -> Result<(), RunFault>
+    // There is a gate.
+    ensures gate { result ≢ Err RunFault.Gate }
+    ensures done { OnOk result (DoesJob words.now.options words.now.counted
+        (reads_of R.remaining R.failed_calls R.sure_calls reader.old reader.new)
+        (writes_of W.contents W.failed_calls writer.old writer.new)) }
+    ensures fault { IfErr result (FailsRun words.now
+        (reads_of R.remaining R.failed_calls R.sure_calls reader.old reader.new)
+        (writes_of W.contents W.failed_calls writer.old writer.new)) }
+    ensures few { words.now.counted ≡ true →
+        ReadsFew (R.remaining reader.old) (R.remaining reader.new) }
+{
+    gate.before_run(&words.options);
+    let Ok(state) = RandomState::new(rt) else {
+        return Err(RunFault::Random);
+    };
+    let job = Job {
+        rt,
+        options: &words.options,
+        gate,
+    };
+    let answer = run_job(&job, state, words.counted, reader, writer);
+    gate.after_run(answer.is_ok());
+    match answer {
+        Ok(()) => Ok(()),
+        Err(fault) => Err(RunFault::Job(fault)),
+    }
+}
+
 /// A run of these words: its report is written. Where there is a teller, it tells how the run gets on.
 ///
 /// The faults come in the order of [`RunFault`]. After `Gate` and `Random` nothing was read or written. With a list of counted
@@ -461,19 +502,5 @@ pub fn run_by<
     let Ok(gate) = TellingGate::new(rt.alloc(), rt, teller, words.options.parts) else {
         return Err(RunFault::Gate);
     };
-    gate.before_run(&words.options);
-    let Ok(state) = RandomState::new(rt) else {
-        return Err(RunFault::Random);
-    };
-    let job = Job {
-        rt,
-        options: &words.options,
-        gate: &gate,
-    };
-    let answer = run_job(&job, state, words.counted, reader, writer);
-    gate.after_run(answer.is_ok());
-    match answer {
-        Ok(()) => Ok(()),
-        Err(fault) => Err(RunFault::Job(fault)),
-    }
+    run_gated(rt, &gate, &words, reader, writer)
 }
