@@ -5,7 +5,7 @@ use Rattle.std.specs.Io.KnownBytes.{Consumes, IsAtEnd}
 use Rattle.std.specs.Str.{bytes_eq}
 use Rattle.sha2.specs.Sha256.{sha256}
 use Rattle.ball_model.specs.Checks.{◌>>=◌}
-use Rattle.ball_model.specs.Checkpoint.{checkpoint_bytes, first_checkpoint_bytes, without_names}
+use Rattle.ball_model.specs.Checkpoint.{checkpoint_bytes, first_checkpoint_bytes, sealed, without_names}
 use Rattle.ball_model.specs.Job.{PartValue}
 use Rattle.ball_model.specs.PlanValue.{PlanValue, part_size}
 use Rattle.ball_model.specs.State.{State}
@@ -218,6 +218,12 @@ pub record GrowsByContent {R : Type 0} (remaining : R → Option (List ℕ)) (fa
   pub long : HEADER_LEN ≤ length grows.piece
   pub head : h ≡ checkpoint_head_at (take HEADER_LEN grows.piece)
   pub few : length grows.piece ≤ allowed_content part grows.piece
+
+-- the text is all that the reader gave before a digest that is right, and it begins with these fixed fields
+pub record IsText (told : Option (List ℕ)) (h : CheckpointHeader) (text : List ℕ) : Type 0 where
+  pub head : h ≡ checkpoint_head_at (take HEADER_LEN text)
+  pub long : HEADER_LEN ≤ length text
+  pub is_sealed : (bytes : List ℕ) → told ≡ Some bytes → bytes ≡ sealed text
 
 -- they were not, which is never for want of memory: a call failed that was not sure, or the bytes are refused
 pub record Fails {R : Type 0} (remaining : R → Option (List ℕ)) (failed : R → ℕ)

@@ -5,12 +5,14 @@ use Rattle.std.specs.List.{flat_map, range_with_len}
 use Rattle.ball_model.specs.Batches.{BatchValue, IsBatch}
 use Rattle.ball_model.specs.Checkpoint.{entry_bytes, kept_batches, no_figures}
 use Rattle.ball_model.specs.Figures.{TallyValue}
+use Rattle.ball_model.specs.Job.{PartValue}
 use Rattle.ball_model.specs.PlanValue.{PlanValue, most_parts}
 use Rattle.ball_model.specs.State.{State}
 use Rattle.ball_model.specs.Table.{Table}
 use Rattle.figures.specs.Values.{value_of}
 use Rattle.figures.specs.declared.tally.Tally.{Tally}
 use Rattle.replica.specs.Saved.{IsFigures}
+use Rattle.replica.specs.declared.saved.Saved.{Saved}
 use Rattle.checkpoint.specs.declared.error.KeepError.{KeepError}
 use Rattle.checkpoint.specs.declared.error.KeepError.TheVariants as errors
 use Rattle.checkpoint.specs.declared.saved.Held.{Held}
@@ -84,6 +86,12 @@ pub record IsHeldOf (v : State) (h : Held) : Type 0 where
   pub change : h.heard_change ≡ v.heard_change
   pub accumulated : h.accumulated.rows ≡ v.accumulated
   pub early : map arc_value h.early.items ≡ kept_batches v.early
+
+-- what was read is of superstep t, and its registers are as many as the part's
+pub record HasShape (part : PartValue) (t : ℕ) (s : Saved) : Type 0 where
+  pub superstep : s.superstep ≡ t
+  pub rows : s.rows.width ≡ 2 ^ part.plan.log2m
+  pub accumulated : s.accumulated.width ≡ 2 ^ part.plan.log2m
 
 -- nothing is heard, the accumulators are the rows, and nothing is kept
 pub record IsUnnamed (rows : Table) (h : Held) : Type 0 where

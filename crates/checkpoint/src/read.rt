@@ -1,23 +1,21 @@
 //! Reading a checkpoint.
 
-ghost use Rattle.std.specs.Prelude.{◌≡◌, ◌+◌, ◌≤◌, ℕ, List, [], Ok, Err, Some, IfOk, OnOk, OnErr};
-ghost use Rattle.std.specs.Prelude.{IfErr, length, take, true, ◌⊎◌};
+ghost use Rattle.std.specs.Prelude.{◌≡◌, ◌+◌, ◌≤◌, ◌⊎◌, ℕ, List, Ok, Err, Some, true, IfErr, IfOk};
+ghost use Rattle.std.specs.Prelude.{OnErr, OnOk};
 ghost use Rattle.std.specs.Arc.{arc_value};
-ghost use Rattle.ball_model.specs.Checkpoint.{checkpoint_bytes, first_checkpoint_bytes, sealed};
+ghost use Rattle.ball_model.specs.Checkpoint.{checkpoint_bytes, first_checkpoint_bytes};
 ghost use Rattle.ball_model.specs.Checkpoint.{without_names};
 ghost use Rattle.ball_model.specs.PlanValue.{greatest_limit};
 ghost use Rattle.ball_model.specs.State.{State};
 ghost use Rattle.ball_model.specs.Streams.{AreSure, TakesAtMost};
 ghost use Rattle.replica.specs.Saved.{Fits, IsKeepable, IsRebuilt};
 ghost use Rattle.replica.specs.Seen.{IsState};
-ghost use Rattle.checkpoint.specs.Reading.{needs, checkpoint_head_at, check_checkpoint_head};
-ghost use Rattle.checkpoint.specs.Reading.{content_form, sealed_form};
-ghost use Rattle.checkpoint.specs.Reading.{allowed, allowed_content, Ends};
-ghost use Rattle.checkpoint.specs.Reading.{most_checkpoint_body, most_checkpoint_bytes};
-ghost use Rattle.checkpoint.specs.Reading.{GrowsByHead, GrowsByContent, Fails, RefusesAs, HasHead};
-ghost use Rattle.checkpoint.specs.Reading.{TakesWithin, IsRead};
+ghost use Rattle.checkpoint.specs.Reading.{Ends, Fails, GrowsByContent, GrowsByHead, HasHead};
+ghost use Rattle.checkpoint.specs.Reading.{IfOkButWant, IsOfBytes, IsRead, IsReplicaSpelling, IsText};
+ghost use Rattle.checkpoint.specs.Reading.{OnOkOrMemory, RefusesAs, TakesWithin, allowed};
+ghost use Rattle.checkpoint.specs.Reading.{allowed_content, check_checkpoint_head, content_form};
+ghost use Rattle.checkpoint.specs.Reading.{most_checkpoint_body, most_checkpoint_bytes, sealed_form};
 ghost use Rattle.checkpoint.specs.Texts.{IsFresh};
-ghost use Rattle.checkpoint.specs.Reading.{IsOfBytes, IsReplicaSpelling, IfOkButWant, OnOkOrMemory};
 
 use crate::error::KeepError;
 use crate::header::{CheckpointHeader, check_header, read_header};
@@ -102,14 +100,9 @@ fn read_text<R: CountedRead>(
         (most_checkpoint_bytes part.now part.now.plan.limit + 1) reader.old reader.new) }
     ensures within { TakesWithin (allowed part.now)
         (R.remaining reader.old) (R.remaining reader.new) }
-    ensures head { text.new.whole ≡ true → IfOk result (λ h.
-        h ≡ checkpoint_head_at (take HEADER_LEN text.new.bytes.items)) }
-    ensures length { text.new.whole ≡ true →
-        OnOk result (HEADER_LEN ≤ length text.new.bytes.items) }
+    ensures text { text.new.whole ≡ true → IfOk result (λ h.
+        IsText (R.remaining reader.old) h text.new.bytes.items) }
     ensures checked { IfOk result (λ h. check_checkpoint_head part.now h ≡ Ok tt) }
-    ensures sealed { text.new.whole ≡ true →
-        OnOk result ((bytes : List ℕ) → R.remaining reader.old ≡ Some bytes →
-        bytes ≡ sealed text.new.bytes.items) }
     ensures small { IfOk result (λ h. h.superstep ≤ greatest_limit) }
     ensures front { (bytes : List ℕ) → R.remaining reader.old ≡ Some bytes →
         OnOk result (HasHead part.now bytes) }

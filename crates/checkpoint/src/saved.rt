@@ -22,7 +22,7 @@ ghost use Rattle.checkpoint.specs.declared.sizes.TheConstants.{HEADER_LEN};
 ghost use Rattle.checkpoint.specs.Spelling.{held_text, table_text};
 ghost use Rattle.checkpoint.specs.Told.{IsAdded, AreNone, AreVerticesTold, HasRoomForAll, IsSmall};
 ghost use Rattle.checkpoint.specs.Told.{IfOkButMemory, AreNext, AreOf, IsOfPlan, IsHeldOf};
-ghost use Rattle.checkpoint.specs.Told.{IsUnnamed};
+ghost use Rattle.checkpoint.specs.Told.{HasShape, IsUnnamed};
 
 use crate::error::KeepError;
 use crate::header::{CheckpointHeader, u16_at};
@@ -461,7 +461,7 @@ pub(crate) fn saved_of(
     text: &[u8],
 ) -> Result<Saved, KeepError>
     requires { header.now.superstep ≤ greatest_limit }
-    ensures superstep { IfOk result (λ s. s.superstep ≡ header.now.superstep) }
+    ensures shape { IfOk result (HasShape part.now header.now.superstep) }
     ensures bytes { OnOk result ((i : ℕ) → slice_index_or text.now i 0 < 256) }
     ensures spelled { header.now.version ≡ 2 → IfOk result (λ s. drop HEADER_LEN text.now ≡
         table_text s.marks.items (map value_of s.tallies.items) s.rows.rows s.sums.items
@@ -475,8 +475,6 @@ pub(crate) fn saved_of(
     ensures first { header.now.version ≡ 1 → (v : State) → IsKeepable v → v.part ≡ part.now →
         v.superstep ≡ header.now.superstep → drop HEADER_LEN text.now ≡ table_bytes v →
         IfOkButMemory result (λ s. IsRebuilt part.now s (without_names v)) }
-    ensures width { IfOk result (λ s. s.rows.width ≡ 2 ^ part.now.plan.log2m) }
-    ensures accumulated { IfOk result (λ s. s.accumulated.width ≡ 2 ^ part.now.plan.log2m) }
     ensures kind { IfErr result IsOfBody }
 {
     let (_front, body) = split_off(text, HEADER_LEN)?;

@@ -6,7 +6,7 @@ use Rattle.sha2.specs.Hashers.{Holds256}
 use Rattle.sha2.specs.declared.Sha256.{Sha256}
 use Rattle.ball_model.specs.Graph.{Graph}
 use Rattle.ball_model.specs.PlanValue.{PlanValue}
-use Rattle.ball_model.specs.Job.{edge_bytes, job_bytes, digest_of}
+use Rattle.ball_model.specs.Job.{edge_bytes, digest_of}
 use Rattle.ball_model.specs.RunText.{Numbers}
 use Rattle.ball_model.specs.declared.plan.Estimate.{Estimate}
 use Rattle.ball_model.specs.declared.plan.Estimate.TheVariants.{Raw, Corrected}
@@ -38,11 +38,6 @@ bare_plan n g = record {
 abbrev pub signed : Graph → PlanValue → PlanValue
 signed g plan = record plan { job = digest_of plan g }
 
--- what a digest of these four numbers over a graph has in both its forms
-abbrev pub numbered_bytes : ℕ → ℕ → ℕ → ℕ → Graph → List ℕ
-numbered_bytes log2m seed parts limit g =
-    job_bytes (bare_plan (numbers_of log2m seed parts limit) g) g
-
 -- the estimates are corrected for small sets
 abbrev pub is_corrected : Estimate → Bool
 is_corrected Raw = false
@@ -58,11 +53,6 @@ numbers_with corrected log2m seed parts limit = record {
   corrected = corrected;
   large = false;
 }
-
--- the digest of the job of these four numbers over a graph, with raw estimates or corrected ones
-abbrev pub numbered_digest : Bool → ℕ → ℕ → ℕ → ℕ → Graph → List ℕ
-numbered_digest corrected log2m seed parts limit g =
-    digest_of (bare_plan (numbers_with corrected log2m seed parts limit) g) g
 
 -- the hasher was given these bytes more
 abbrev pub Hashes : Sha256 → Sha256 → List ℕ → Type 0

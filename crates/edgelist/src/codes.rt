@@ -15,7 +15,8 @@ use std::thread::{Threads, join_mut};
 // Fewer edges are not worth a thread.
 const LEAST: usize = 16_384;
 
-// The codes of a round are held twice for a while: the edges take 32 MiB, and their codes less.
+// The codes of a round, and the places where its lists begin, are held twice for a while. Its edges take 32 MiB, or more
+// where one target has more of them; their codes take less, and the places 4 bytes a target.
 const ROUND: u32 = 4_194_304;
 
 /// How the work on codes is dealt out.
@@ -274,7 +275,8 @@ fn coded_by<R: Threads + Sync>(
     code_rounds(rt, alloc, edges, count, shares)
 }
 
-/// What [`crate::build::lists_of`] tells, by several threads. Beside that it takes the codes of one round.
+/// What [`crate::build::lists_of`] tells, by several threads. Beside what that takes, it holds the codes and places
+/// of one round twice: of one target, where that has more edges than a round.
 pub(crate) fn lists_of_by<R: Threads + Sync>(
     rt: &R,
     alloc: Global,

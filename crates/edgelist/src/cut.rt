@@ -40,7 +40,7 @@ impl CutRecord {
     }
 }
 
-/// Records, each of which has the form of one: the bytes of their fields, one behind another, and where each stands.
+/// Records, each of which has the form of one: the bytes of their fields, one after another, and where each stands.
 #[derive(Drop)]
 pub(crate) struct Cut {
     bytes: Vec<u8>,
@@ -66,7 +66,7 @@ fn end_of(bytes: &Vec<u8>) -> Option<u32>
     u32::try_from(bytes.len()).ok()
 }
 
-// Puts a field behind the bytes, if there is room.
+// Puts a field after the bytes, if there is room.
 fn put(bytes: &mut Vec<u8>, field: &[u8]) -> Option<u32>
     ensures extends { Extends bytes.old.items bytes.new.items }
     ensures items { OnSome result (bytes.new.items ≡ bytes.old.items ++ field.now) }
@@ -91,7 +91,7 @@ fn put_second(bytes: &mut Vec<u8>, field: Option<&[u8]>) -> Option<u32>
     }
 }
 
-// Puts the fields of a record behind the bytes, if it has the form of one and there is room, and tells where they stand.
+// Puts the fields of a record after the bytes, if it has the form of one and there is room, and tells where they stand.
 fn put_fields(bytes: &mut Vec<u8>, row: &Row) -> Option<CutRecord>
     ensures extends { Extends bytes.old.items bytes.new.items }
     ensures cut { IfSome result (IsCut bytes.new.items) }
@@ -118,7 +118,7 @@ fn put_fields(bytes: &mut Vec<u8>, row: &Row) -> Option<CutRecord>
     })
 }
 
-// Puts a record behind others, if it has the form of one and there is room.
+// Puts a record after others, if it has the form of one and there is room.
 fn put_record(bytes: &mut Vec<u8>, records: &mut Vec<CutRecord>, row: &Row) -> Option<()>
     requires { All (IsCut bytes.old.items) records.old.items }
     ensures cut { All (IsCut bytes.new.items) records.new.items }
@@ -199,14 +199,14 @@ impl Cut {
         (record.source, record.target)
     }
 
-    // Puts a record behind the others, if it has the form of one and there is room.
+    // Puts a record after the others, if it has the form of one and there is room.
     fn push(&mut self, row: &Row) -> Option<()>
         ensures { OnSome result (self.new ≡ self.old ++ row.now ∷ []) }
     {
         put_record(&mut self.bytes, &mut self.records, row)
     }
 
-    // Puts the next record of a reader behind the others, and tells whether there was one.
+    // Puts the next record of a reader after the others, and tells whether there was one.
     fn push_next<R: Read + Drop>(&mut self, reader: &mut Reader<R>, row: &mut Row) -> Option<bool>
         ensures one { (d : ℕ) (text : List ℕ) → IsLeft R.remaining d text self.old reader.old →
             IfSome result (λ more. more ≡ true → IsLeft R.remaining d text self.new reader.new) }
@@ -223,7 +223,7 @@ impl Cut {
         Some(true)
     }
 
-    /// Puts all records that a reader has left behind the others, if each has the form of one and there is room.
+    /// Puts all records that a reader has left after the others, if each has the form of one and there is room.
     pub(crate) fn push_all<R: Read + Drop>(
         &mut self,
         reader: &mut Reader<R>,

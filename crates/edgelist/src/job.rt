@@ -129,8 +129,8 @@ impl JobOptions {
         LIMITS
     }
 
-    /// How many threads work on the job: as many as are asked for, or else one a processor, or one if that number cannot be
-    /// told.
+    /// How many threads work on the job: as many as are asked for, or else one a processor, or one if that number is not
+    /// known.
     pub fn threads_for<R: Threads>(&self, rt: &R) -> usize
         ensures asked { 0 < self.now.threads → result ≡ self.now.threads }
         ensures some { 0 < result }
@@ -145,7 +145,7 @@ impl JobOptions {
     }
 
     /// Reads the edge list as [`JobOptions::read_edges`] does, by as many threads as work on the job. One adds records, and
-    /// tells the watch how many there are so far; the others cut lines into fields. With one thread the watch is told
+    /// tells the watch how many there are so far; the others cut lines into fields. One thread alone tells the watch
     /// nothing.
     ///
     /// Several threads ask for up to two rounds of pieces, some MiB, beyond the record that is refused, and the refusal

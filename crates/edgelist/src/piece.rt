@@ -8,14 +8,14 @@ ghost use Rattle.edgelist.specs.Pieces.{EndsLine, Fills, IsDone, IsOn, IsThrough
 ghost use Rattle.edgelist.specs.Reading.{AreWithin, Refuses, byte_of, limits_of};
 
 use crate::cut::Cut;
-use crate::pieces::read_lines;
-use crate::read::{Delimiter, EdgeError, EdgeLimits, Reading};
+use crate::read::{Delimiter, EdgeError, EdgeLimits};
+use crate::reading::{Lines, Reading};
 use crate::records::reader_of;
 use crate::row::{AT_ONCE, Row, rows_for};
 use ball_model::CountedRead;
 use std::alloc::{AllocError, Global};
 
-/// So many bytes are waited for where none are there to be added meanwhile.
+/// So many bytes the first piece of a round waits for, also where there are records to be added meanwhile.
 pub(crate) const LEAST: usize = 16_384;
 
 // So many are asked for by one read, at most.
@@ -121,7 +121,7 @@ fn last_end(lines: &[u8]) -> usize
     0
 }
 
-// Puts what stands behind a line's end, and its LF, in place of what was held, and keeps the lines before.
+// Puts what stands after a line's end, and its LF, in place of what was held, and keeps the lines before.
 fn hold_from(lines: &mut Vec<u8>, held: &mut Vec<u8>, end: usize) -> Result<(), AllocError>
     requires { end ≤ length lines.old.items }
     ensures front { OnOk result (lines.new.items ≡ take end lines.old.items) }
@@ -134,7 +134,7 @@ fn hold_from(lines: &mut Vec<u8>, held: &mut Vec<u8>, end: usize) -> Result<(), 
     Ok(())
 }
 
-/// Bytes of a reader that no piece has: those behind the last line's end, and its LF.
+/// Bytes of a reader that no piece has: those after the last line's end, and its LF.
 #[derive(Drop)]
 pub(crate) struct Held {
     bytes: Vec<u8>,
@@ -287,15 +287,11 @@ impl Piece {
         ensures read { result ≢ Err EdgeError.Read }
     {
         let mut rows = rows_for(alloc, AT_ONCE)?;
-        read_lines(
-            reading,
-            alloc,
-            &mut rows,
-            &self.lines,
-            self.delimiter,
-            number,
-            limits,
-        )
+        let lines = Lines {
+            bytes: &self.lines,
+            delimiter: self.delimiter,
+        };
+        reading.read_lines(alloc, &mut rows, lines, number, limits)
     }
 
     /// Adds its records, which follow `number` others, and tells how many there are then: by their fields, where they are

@@ -1,22 +1,18 @@
 //! Edge lists whose bytes are given one after the other.
 //!
-//! Whoever has a reader that goes on behind the edge list reads it byte by byte, and gives these bytes to an
+//! Whoever has a reader that goes on after the edge list reads it byte by byte, and gives these bytes to an
 //! [`EdgeReader`]. It holds some lines at a time and never the whole edge list.
 
 ghost use Rattle.std.specs.Prelude.{◌≡◌, ◌≢◌, ◌<◌, ◌≤◌, ◌++◌, ◌∷◌, [], ℕ, List, None, Some, length};
-ghost use Rattle.std.specs.Prelude.{Err, IfErr, IfOk, Ok, OnOk, Result};
+ghost use Rattle.std.specs.Prelude.{Err, IfErr, IfOk, Ok, OnOk};
 ghost use Rattle.std.proofs.Props.{props};
-ghost use Rattle.ball_model.specs.Input.{IsPlain, Limits, Network, Refusal, most_records, network_from};
-ghost use Rattle.ball_model.specs.Input.{records};
+ghost use Rattle.ball_model.specs.Input.{IsPlain, Limits, most_records, records};
 ghost use Rattle.ball_model.specs.PlanValue.{most_vertices};
-ghost use Rattle.edgelist.specs.Pieces.{IsThrough};
 ghost use Rattle.edgelist.specs.Reading.{AreWithin, Refuses, byte_of, limits_of, meaning_under};
 ghost use Rattle.edgelist.specs.declared.read.EdgeError.TheVariants as refused;
 
-use crate::read::{
-    Delimiter, EdgeError, EdgeLimits, EdgeList, MOST_RECORDS, Reading, USUAL_RECORDS,
-};
-use crate::records::reader_of;
+use crate::read::{Delimiter, EdgeError, EdgeLimits, EdgeList, MOST_RECORDS, USUAL_RECORDS};
+use crate::reading::{Lines, Reading};
 use crate::row::{AT_ONCE, Row, rows_for};
 use ball_model::plan::{MOST_VERTICES, USUAL_VERTICES};
 use std::alloc::Global;
@@ -24,54 +20,6 @@ use std::hash::RandomState;
 
 // So many bytes are held before their lines are read.
 const ENOUGH: usize = 65_536;
-
-// What is told of lines in memory, of which no call can fail.
-fn without_read(read: Result<u64, EdgeError>) -> Result<u64, EdgeError>
-    ensures ok { IfOk result (λ n. read ≡ Ok n) }
-    ensures refused { (says : Result Network Refusal) → IfErr read (Refuses says) →
-        IfErr result (Refuses says) }
-    ensures read { result ≢ Err EdgeError.Read }
-{
-    match read {
-        Ok(number) => Ok(number),
-        Err(EdgeError::Read) => Err(EdgeError::Memory),
-        Err(error) => Err(error),
-    }
-}
-
-// Adds the records of some lines, which follow `number` others, and tells how many there are then.
-pub(crate) fn read_lines(
-    reading: &mut Reading,
-    alloc: Global,
-    rows: &mut [Row],
-    lines: &[u8],
-    delimiter: Delimiter,
-    number: u64,
-    limits: EdgeLimits,
-) -> Result<u64, EdgeError>
-    requires rows { 0 < length rows.old }
-    requires few { limits.edges ≤ most_records }
-    requires number { number ≤ limits.edges }
-    requires within { AreWithin limits.vertices number
-        reading.old.labels reading.old.edges.items }
-    ensures number { IfOk result (λ n. n ≤ limits.edges) }
-    ensures within { IfOk result (λ n. AreWithin limits.vertices n
-        reading.new.labels reading.new.edges.items) }
-    ensures ok { (before : List (List (List ℕ))) → IsPlain lines.now →
-        IsThrough (limits_of limits) number before reading.old.labels reading.old.edges.items →
-        IfOk result (λ n. IsThrough (limits_of limits) n
-        (before ++ records (byte_of delimiter) lines.now)
-        reading.new.labels reading.new.edges.items) }
-    ensures refused { (before more : List (List (List ℕ))) → IsPlain lines.now →
-        IsThrough (limits_of limits) number before reading.old.labels reading.old.edges.items →
-        IfErr result (Refuses (network_from (limits_of limits)
-        (before ++ (records (byte_of delimiter) lines.now ++ more)))) }
-    ensures read { result ≢ Err EdgeError.Read }
-{
-    let mut reader = reader_of(alloc, lines, delimiter);
-    let read = reading.read_more(alloc, &mut reader, rows, number, limits);
-    without_read(read)
-}
 
 /// Reads an edge list whose bytes are given one at a time.
 pub struct EdgeReader {
@@ -82,7 +30,7 @@ pub struct EdgeReader {
     number: u64,
     // the room for those that are read at once
     rows: Vec<Row>,
-    // the bytes that were given and not read, behind an LF where others were read before
+    // the bytes that were given and not read, after an LF where others were read before
     lines: Vec<u8>,
     // what was refused before
     failed: Option<EdgeError>,
@@ -188,15 +136,14 @@ impl EdgeReader {
         ensures stays { IfErr result (λ e. HasFailed e self.new) }
         ensures read { result ≢ Err EdgeError.Read }
     {
-        match read_lines(
-            &mut self.reading,
-            alloc,
-            &mut self.rows,
-            &self.lines,
-            self.delimiter,
-            self.number,
-            self.limits,
-        ) {
+        let lines = Lines {
+            bytes: &self.lines,
+            delimiter: self.delimiter,
+        };
+        match self
+            .reading
+            .read_lines(alloc, &mut self.rows, lines, self.number, self.limits)
+        {
             Ok(number) => {
                 self.number = number;
                 self.lines.truncate(1);
@@ -263,15 +210,11 @@ impl EdgeReader {
             lines,
             failed: _,
         } = self;
-        let records = read_lines(
-            &mut reading,
-            alloc,
-            &mut rows,
-            &lines,
+        let lines = Lines {
+            bytes: &lines,
             delimiter,
-            number,
-            limits,
-        )?;
+        };
+        let records = reading.read_lines(alloc, &mut rows, lines, number, limits)?;
         reading.into_list(alloc, records)
     }
 }

@@ -11,12 +11,12 @@ ghost use Rattle.edgelist.specs.Pieces.{IsDone, IsOn, IsThrough};
 ghost use Rattle.edgelist.specs.Reading.{AreWithin, CountsOne, Refuses, byte_of, limits_of};
 ghost use Rattle.edgelist.specs.Reading.{meaning_within};
 ghost use Rattle.edgelist.specs.Records.{ForPlain};
-ghost use Rattle.edgelist.specs.Rounds.{AreOn, IsSameText, has_no_lines, has_plain_lines};
+ghost use Rattle.edgelist.specs.Rounds.{AreOn, IsSameText, has_no_lines, has_plain_lines, records_of};
 ghost use Rattle.edgelist.specs.declared.piece.Piece.{Piece};
-ghost use Rattle.edgelist.specs.Rounds.{records_of};
 
 use crate::piece::{Amount, Gives, Held, LEAST, Piece};
-use crate::read::{Delimiter, EdgeError, EdgeLimits, EdgeList, Reading, read_answer};
+use crate::read::{Delimiter, EdgeError, EdgeLimits, EdgeList, read_answer};
+use crate::reading::Reading;
 use crate::watch::Watch;
 use ball_model::CountedRead;
 use std::alloc::{AllocError, AllocGlobal, Global};
@@ -336,7 +336,8 @@ impl<'a, R: AllocGlobal + Threads + Sync, W: Watch> Rounds<'a, R, W> {
     /// no other time.
     ///
     /// Up to two rounds of pieces are asked for beyond the record that is refused. If a read fails there, `Read` is
-    /// answered. A piece takes some eight times its bytes, 1 MiB at most where lines are short.
+    /// answered. A piece takes some 48 bytes a record beside its bytes and those of
+    /// its fields, and room to grow: 1 MiB where lines have some twelve bytes, and up to 7 MiB where they have two.
     pub(crate) fn read<S: CountedRead>(
         &self,
         state: RandomState,

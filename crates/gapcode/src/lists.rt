@@ -93,7 +93,7 @@ impl Lists {
 
     /// The lists that these bytes spell: so many of them, of numbers below the bound.
     ///
-    /// The first fault from the left is told: `Ended`, `TooLong` and `Range` by the place of reading, then `Padding`,
+    /// The first fault from the left is answered: `Ended`, `TooLong` and `Range` by the place of reading, then `Padding`,
     /// `Trailing` and, where all checks passed, `Memory`. For a library's user: the program does not call it.
     pub fn read(alloc: Global, bytes: &[u8], count: usize, bound: u32) -> Result<Lists, CodeError>
         // What is found is spelled by the bytes, and so many lists of numbers below the bound.

@@ -8,7 +8,7 @@ ghost use Rattle.gapcode.specs.Places.{marks_up_to};
 use std::alloc::{AllocError, Global};
 use std::marker::Model;
 
-/// Ascending places below 2^96: the bits or bytes at which pieces begin that stand one behind another.
+/// Ascending places below 2^96: the bits or bytes at which pieces begin that stand one after another.
 ///
 /// A place takes 4 bytes, for its lowest 32 bits. Beside them is a mark of 8 bytes for each 2^32 that the last place has
 /// passed.

@@ -1,6 +1,6 @@
 -- What a run reports of an input, and what a fault of it says.
-use Rattle.std.proofs.Common.{◌≡◌, ◌≢◌, ◌∙◌, ◌<◌, ◌≤◌, ℕ, Bool, List, inl, inr, length, false, true, ap, arith, refl, sym, subst}
-use Rattle.std.specs.Prelude.{Err, IfSome, None, Ok, Option, Result, Some}
+use Rattle.std.proofs.Common.{◌≡◌, ◌≢◌, ℕ, Bool, List, inl, inr, false, true, ap, refl, sym, subst}
+use Rattle.std.specs.Prelude.{Err, IfSome, None, Ok, Option, Some}
 use Rattle.std.specs.Io.KnownBytes.{Keeps}
 use Rattle.ball_model.specs.Streams.{Rises, RisesByOne}
 use Rattle.edgelist.specs.Job.{settings_of}
@@ -9,7 +9,7 @@ use Rattle.edgelist.specs.Records.{ForPlain}
 use Rattle.edgelist.specs.declared.read.EdgeError.TheVariants as edge_fault
 use Rattle.ball_model.specs.Input.{IsPlain}
 use Rattle.ball_model.specs.RunText.{AppendsReport, ArePlain, Settings}
-use Rattle.node.specs.declared.limits.TheConstants.{MOST_BYTES}
+use Rattle.ball_model.specs.Sections.{sections_of}
 use Rattle.workers.specs.Options.{run_job}
 use Rattle.workers.specs.Run.{IsFaultIn, IsRunRefusal, RefusesEdges}
 use Rattle.workers.specs.declared.runs.RunError.{RunError}
@@ -17,10 +17,10 @@ use Rattle.workers.specs.declared.runs.RunError.TheVariants as run_fault
 use Rattle.workers.specs.declared.options.RunOptions.{RunOptions}
 use Rattle.hyperball.specs.Refusals.{DoesJob, FailsJob, RefusesInput, Reports}
 use Rattle.hyperball.specs.Streams.{KeptOrFailed, Reads, Writes}
-use Rattle.hyperball.specs.Whole.{Parts, ReadsWhole, parts_in}
-use Rattle.hyperball.specs.declared.cli.run.JobFault.{JobFault}
+use Rattle.hyperball.specs.Whole.{Parts, ReadsWhole, at_mark, parts_in}
 use Rattle.hyperball.specs.declared.cli.run.JobFault.TheVariants as fault
 use Rattle.hyperball.specs.declared.whole.Lack.{Lack}
+use Rattle.hyperball.specs.declared.whole.Lack.TheVariants as lack
 use Rattle.hyperball.specs.declared.whole.WholeError.{WholeError}
 use Rattle.hyperball.proofs.WholeLemmas.{IsRead, always, not_long, of_input, retold, untold}
 
@@ -72,11 +72,16 @@ unread o r w f whole keeps = record {
   kept = inl keeps;
 }
 
+-- an input that is to have a list and no script lacks none but the list
+lacks_list : (missing : Lack) (found : Option (List ℕ × List ℕ)) → at_mark lack.List found (λ edges list. Ok (record { edges = edges; list = Some list; script = None })) ≡ Err missing → missing ≡ lack.List
+lacks_list missing None is = cc
+lacks_list missing (Some s) is = absurd (cc)
+
 -- it lacks a part
 pub lacking : (o : RunOptions) (r : Reads) (w : Writes) (bytes : List ℕ) (missing : Lack) → IsRead r bytes → parts_in true false bytes ≡ Err missing → Keeps w.contents.old w.contents.new →
     FailsJob o true r w (fault.Lacks missing)
 lacking o r w bytes missing read found keeps = record {
-  due = (refl, of_input r.bytes.old bytes (λ input. parts_in true false input ≡ Err missing) read.whole found);
+  due = (refl, (lacks_list missing (sections_of bytes) found, of_input r.bytes.old bytes (λ input. parts_in true false input ≡ Err missing) read.whole found));
   listed = λ _. record {
     whole = untold r bytes _ read (λ e is. absurd (cc));
     long = not_long r bytes _ read;

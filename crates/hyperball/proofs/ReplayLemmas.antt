@@ -1,11 +1,9 @@
 -- What a replay that fails leaves, and why it fails.
-use Rattle.std.proofs.Common.{◌≡◌, ◌≢◌, ◌⊎◌, ◌<◌, ℕ, Bool, List, ap, false, inl, inr, refl, subst, true}
-use Rattle.std.specs.Prelude.{Err, IfSome, None, Ok, Option, Result, Some, is_some}
+use Rattle.std.proofs.Common.{◌≡◌, ◌≢◌, ◌⊎◌, ℕ, Bool, List, ap, false, inl, inr, refl, subst, true}
+use Rattle.std.specs.Prelude.{Err, None, Ok, Option, Result, Some, is_some}
 use Rattle.std.specs.Borrow.{Bor}
 use Rattle.std.specs.Io.KnownBytes.{Keeps}
 use Rattle.ball_model.specs.RunText.{list_in}
-use Rattle.node.specs.declared.limits.TheConstants.{MOST_BYTES}
-use Rattle.world.specs.Replay.{FailsOfReplay, replay_of}
 use Rattle.world.specs.declared.replay.ReplayError.{ReplayError}
 use Rattle.world.specs.declared.replay.ReplayError.TheVariants as fault
 use Rattle.hyperball.specs.Replaying.{Answers, BeginsAnswers, BeginsToServe, DoesReplay, FailsOver, FailsReplay, HasParts}
@@ -13,7 +11,6 @@ use Rattle.hyperball.specs.Streams.{Reads, Writes}
 use Rattle.ball_model.specs.Sections.{sections_of}
 use Rattle.hyperball.specs.Whole.{Parts, ReadsWhole, at_mark, parts_in}
 use Rattle.hyperball.specs.declared.cli.replay.ReplayWords.{ReplayWords}
-use Rattle.hyperball.specs.declared.cli.replay.ReplayFault.{ReplayFault}
 use Rattle.hyperball.specs.declared.cli.replay.ReplayFault.TheVariants as unserved
 use Rattle.hyperball.specs.declared.whole.Lack.{Lack}
 use Rattle.hyperball.specs.declared.whole.Lack.TheVariants as lack

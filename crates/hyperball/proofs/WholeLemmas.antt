@@ -1,6 +1,6 @@
 -- Inputs that are read whole, and their sections.
 use Rattle.std.proofs.Common.{◌≡◌, ◌∙◌, ℕ, suc, ◌+◌, ◌-◌, ◌<◌, ◌≤◌, Bool, true, false, ◌==◌, if◌then◌else◌, subst, List, [], ◌∷◌, ◌++◌, length, take, drop, slice_index, refl, ap, arith, sym, append-nil, length-append}
-use Rattle.std.specs.Prelude.{Err, IfSome, None, Ok, Option, Result, Some, is_some}
+use Rattle.std.specs.Prelude.{Err, IfSome, None, Ok, Option, Result, Some}
 use Rattle.std.specs.Io.KnownBytes.{Consumes}
 use Rattle.std.proofs.Math.Seq.{drop-cons, take-suc}
 use Rattle.std.proofs.lemmas.List.{drop_all, length-take}
@@ -10,7 +10,7 @@ use Rattle.ball_model.specs.Streams.{Rises, TakesAtMost}
 use Rattle.world.proofs.ScriptLemmas.{behind, behind-longer, whole_rest}
 use Rattle.node.specs.declared.limits.TheConstants.{MOST_BYTES}
 use Rattle.hyperball.specs.Streams.{Reads}
-use Rattle.hyperball.specs.Whole.{IsWholeInput, Parts, ReadsFew, ReadsWhole, parts_in}
+use Rattle.hyperball.specs.Whole.{IsWholeInput, Parts, ReadsFew, ReadsWhole}
 use Rattle.hyperball.specs.declared.whole.Lack.{Lack}
 use Rattle.hyperball.specs.declared.whole.WholeError.{WholeError}
 use Rattle.hyperball.specs.declared.whole.WholeError.TheVariants as fault
@@ -139,3 +139,17 @@ seen r items bytes read same = subst (IsRead r) (sym same) read
 
 pub same_whole_error : (x y : WholeError) (A : Type 0) → ◌≡◌ {A = Result A WholeError} (Err x) (Err y) → x ≡ y
 same_whole_error x y A is = cc
+
+-- what an error tells of the input is told of the fault
+pub told_of : (r : Reads) (f : WholeError) (A : Type 0) → ReadsWhole r (λ e. ◌≡◌ {A = Result A WholeError} (Err f) (Err e)) → ReadsWhole r (λ e. f ≡ e)
+told_of r f A reads =
+    retold r (λ e. ◌≡◌ {A = Result A WholeError} (Err f) (Err e)) (λ e. f ≡ e) (λ e is. ap Err is) (λ e is. same_whole_error f e A is) reads
+
+-- an input of which no error is told was read
+pub read_well : (r : Reads) (bytes : List ℕ) (A : Type 0) (x : A) → IsWholeInput r.bytes.old bytes → length bytes ≤ MOST_BYTES → ReadsWhole r (λ e. ◌≡◌ {A = Result A WholeError} (Ok x) (Err e)) → IsRead r bytes
+read_well r bytes A x whole within reads = record {
+  whole = whole;
+  within = within;
+  unfailed = λ rises. let bad = reads.failed rises in absurd (cc);
+  few = reads.few;
+}

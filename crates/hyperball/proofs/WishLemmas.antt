@@ -1,22 +1,25 @@
 -- What the words of a command line ask for, and how that ends.
-use Rattle.std.proofs.Common.{◌≡◌, ◌⊎◌, ℕ, Bool, List, inl, inr, refl, subst, sym, ap, true}
+use Rattle.std.proofs.Common.{◌≡◌, ℕ, List, [], arith, inl, inr, refl, subst, sym, true}
 use Rattle.std.specs.Prelude.{IfOk, None, Ok, Option, Result, Some}
 use Rattle.std.specs.Io.KnownBytes.{Keeps}
-use Rattle.clap.specs.Words.{Row, Text, subcommand_of}
+use Rattle.clap.specs.Words.{Row, Text, fault_of, subcommand_of}
 use Rattle.hyperball.specs.CommandLine.{Parsers, TakeNames, hyperball_app}
-use Rattle.hyperball.specs.Ends.{Does, FailsAlone, FailsRun, FailsWish, LeavesFault}
+use Rattle.hyperball.specs.Ends.{Does, EndsAccepted, EndsOrders, FailsAlone, FailsRun, FailsWish, LeavesFault}
 use Rattle.hyperball.specs.Nodes.{IsGatherOf, IsNodeOf}
 use Rattle.hyperball.specs.Refusals.{DoesJob}
 use Rattle.hyperball.specs.Replaying.{IsReplayOf}
 use Rattle.hyperball.specs.Streams.{KeptOrFailed, Reads, Untouched, Writes}
-use Rattle.hyperball.specs.Wishes.{AsksWish, IsWishOf, NamesWish, ReadsAll, Says, with_lists_of}
-use Rattle.hyperball.specs.Words.{IsRunOf}
+use Rattle.hyperball.specs.Wishes.{AnswersWish, AsksWish, IsOfSubcommand, IsOfWords, IsWishOf, NamesWish, ReadsAll, Says, SaysListed, with_lists_of}
+use Rattle.hyperball.specs.Words.{GivesProgress, IsRunOf, RefusesLists, RefusesOrders}
 use Rattle.hyperball.specs.declared.cli.Wish.{Wish}
 use Rattle.hyperball.specs.declared.cli.Wish.TheVariants as wish
 use Rattle.hyperball.specs.declared.cli.WordsError.{WordsError}
+use Rattle.hyperball.specs.declared.cli.WordsError.TheVariants as words_error
 use Rattle.hyperball.specs.declared.cli.gather.GatherWords.{GatherWords}
 use Rattle.hyperball.specs.declared.cli.one_node.NodeWords.{NodeWords}
 use Rattle.hyperball.specs.declared.cli.replay.ReplayWords.{ReplayWords}
+use Rattle.hyperball.specs.declared.cli.orders.OrdersError.{OrdersError}
+use Rattle.hyperball.specs.declared.cli.orders.OrdersError.TheVariants as orders_error
 use Rattle.hyperball.specs.declared.cli.run.RunFault.{RunFault}
 use Rattle.hyperball.specs.declared.cli.run.RunFault.TheVariants as unrun
 use Rattle.hyperball.specs.declared.cli.run.RunWords.{RunWords}
@@ -76,15 +79,22 @@ says_reads (wish.Gather a) x says all = subst ReadsAll (sym says) all
 ok_wish : (r : Result Wish WordsError) (x : Wish) → r ≡ Ok x → IfOk r (λ y. y ≡ x)
 ok_wish r x is = subst (λ (o : Result Wish WordsError). IfOk o (λ y. y ≡ x)) (sym is) refl
 
--- what is asked for by each command
-pub each_asked : (sub : Option (Text × List Row)) (r : Result Wish WordsError) →
+-- what is asked for is the answer, by each command
+pub each_answer : (sub : Option (Text × List Row)) (r : Result Wish WordsError) →
     ((w : RunWords) → IsRunOf sub w → IfOk r (Says (wish.Run w))) → ((w : ReplayWords) → IsReplayOf sub w → r ≡ Ok (wish.Replay w)) →
     ((w : NodeWords) → IsNodeOf sub w → r ≡ Ok (wish.Node w)) → ((w : GatherWords) → IsGatherOf sub w → r ≡ Ok (wish.Gather w)) →
-    (a : Wish) → IsWishOf sub a → IfOk r (Says a)
-each_asked sub r run replay node gather (wish.Run w) is = run w is
-each_asked sub r run replay node gather (wish.Replay w) is = ok_wish r (wish.Replay w) (replay w is)
-each_asked sub r run replay node gather (wish.Node w) is = ok_wish r (wish.Node w) (node w is)
-each_asked sub r run replay node gather (wish.Gather w) is = ok_wish r (wish.Gather w) (gather w is)
+    (a : Wish) → IsWishOf sub a → AnswersWish a r
+each_answer sub r run replay node gather (wish.Run w) is = run w is
+each_answer sub r run replay node gather (wish.Replay w) is = replay w is
+each_answer sub r run replay node gather (wish.Node w) is = node w is
+each_answer sub r run replay node gather (wish.Gather w) is = gather w is
+
+-- such an answer is this wish
+pub answer_says : (a : Wish) (r : Result Wish WordsError) → AnswersWish a r → IfOk r (Says a)
+answer_says (wish.Run w) r is = is
+answer_says (wish.Replay w) r is = ok_wish r (wish.Replay w) is
+answer_says (wish.Node w) r is = ok_wish r (wish.Node w) is
+answer_says (wish.Gather w) r is = ok_wish r (wish.Gather w) is
 
 -- a wish by its name
 pub asks_wish : (words : List Text) (x : Wish) (p : Parsers) → TakeNames p → NamesWish (subcommand_of (hyperball_app p) words) x → AsksWish words x
@@ -92,3 +102,35 @@ asks_wish words (wish.Run w) p take names = tt
 asks_wish words (wish.Replay w) p take names = record { parsers = p; take = take; named = names }
 asks_wish words (wish.Node w) p take names = record { parsers = p; take = take; named = names }
 asks_wish words (wish.Gather w) p take names = record { parsers = p; take = take; named = names }
+
+-- a wish that a subcommand says, as the words say it
+pub of_words : (words : List Text) (x : Wish) (p : Parsers) → TakeNames p → fault_of (hyperball_app p) words ≡ [] → (sub : Option (Text × List Row)) → sub ≡ subcommand_of (hyperball_app p) words → IsOfSubcommand sub x → IsOfWords words x
+of_words words x p take none sub rows found = record {
+  asks = asks_wish words x p take (subst (λ (s : Option (Text × List Row)). NamesWish s x) rows found.names);
+  orders = record { parsers = p; take = take; listed = subst (λ (s : Option (Text × List Row)). SaysListed s x) rows found.listed };
+  progress = λ b asks. found.progress b (subst (λ (s : Option (Text × List Row)). GivesProgress s b) (sym rows) (asks.flag p take none));
+}
+
+-- why the lists of orders in words are refused
+pub refuses_orders : (words : List Text) (e : OrdersError) (p : Parsers) → TakeNames p → RefusesLists (subcommand_of (hyperball_app p) words) e → RefusesOrders words e
+refuses_orders words orders_error.Form p take why = (record { parsers = p; take = take; orders = why.0 }, record { parsers = p; take = take; misspelt = why.1 })
+refuses_orders words orders_error.Memory p take why = record { parsers = p; take = take; lists = why }
+
+-- ---- words that are refused where clap finds nothing wrong
+orders_one : (e : OrdersError) (status : ℕ) → EndsOrders e status → status ≡ 0 → ⊥
+orders_one orders_error.Memory status ends done = omega (arith, ends, done)
+orders_one orders_error.Form status ends done = omega (arith, ends, done)
+
+-- they are not done
+pub accepted_undone : (e : WordsError) (status : ℕ) → EndsAccepted e status → status ≡ 0 → ⊥
+accepted_undone (words_error.Clap e) status ends done = omega (arith, ends, done)
+accepted_undone (words_error.Orders e) status ends done = orders_one e status ends done
+
+orders_form : (e : OrdersError) (status : ℕ) → EndsOrders e status → status ≡ 2 → e ≡ orders_error.Form
+orders_form orders_error.Memory status ends two = absurd (omega (arith, ends, two))
+orders_form orders_error.Form status ends two = refl
+
+-- and a mistake in them is in a list of orders
+pub accepted_mistake : (e : WordsError) (status : ℕ) → EndsAccepted e status → status ≡ 2 → e ≡ words_error.Orders orders_error.Form
+accepted_mistake (words_error.Clap e) status ends two = absurd (omega (arith, ends, two))
+accepted_mistake (words_error.Orders e) status ends two = rw (orders_form e status ends two) refl

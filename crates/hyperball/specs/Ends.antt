@@ -1,5 +1,5 @@
 -- How what a command line asks for ends: it is done, or it fails for a reason.
-use Rattle.std.specs.Prelude.{◌≡◌, ◌≢◌, ◌⊎◌, ℕ, List, [], ◌∷◌}
+use Rattle.std.specs.Prelude.{◌≡◌, ◌≢◌, ◌⊎◌, ◌≤◌, ℕ, List, [], ◌∷◌}
 use Rattle.std.specs.Io.KnownBytes.{Keeps}
 use Rattle.clap.specs.Words.{Text}
 use Rattle.clap.specs.declared.error.kind.ErrorKind.{ErrorKind}
@@ -12,11 +12,15 @@ use Rattle.hyperball.specs.Replaying.{BeginsSome, DoesReplay, FailsReplay}
 use Rattle.hyperball.specs.Streams.{AppendsSome, KeptOrFailed, Reads, Untouched, Writes}
 use Rattle.hyperball.specs.Whole.{ReadsFew}
 use Rattle.hyperball.specs.Wishes.{ReadsAll, Says, SaysOrders}
-use Rattle.hyperball.specs.Words.{AreMistakes, HasFaults, HasNoLists, HasOrders}
+use Rattle.hyperball.specs.Words.{AreMistakes, HasFaults, HasNoLists, HasOrders, IsMistake}
 use Rattle.hyperball.specs.declared.cli.Wish.{Wish}
 use Rattle.hyperball.specs.declared.cli.Wish.TheVariants as wish
+use Rattle.hyperball.specs.declared.cli.WordsError.{WordsError}
+use Rattle.hyperball.specs.declared.cli.WordsError.TheVariants as words_error
 use Rattle.hyperball.specs.declared.cli.gather.GatherWords.{GatherWords}
 use Rattle.hyperball.specs.declared.cli.one_node.NodeWords.{NodeWords}
+use Rattle.hyperball.specs.declared.cli.orders.OrdersError.{OrdersError}
+use Rattle.hyperball.specs.declared.cli.orders.OrdersError.TheVariants as orders_error
 use Rattle.hyperball.specs.declared.cli.run.RunFault.{RunFault}
 use Rattle.hyperball.specs.declared.cli.run.RunFault.TheVariants as unrun
 use Rattle.hyperball.specs.declared.cli.run.RunWords.{RunWords}
@@ -137,6 +141,33 @@ pub record Ends (words : List Text) (asked : Wish) (status : ℕ) (r : Reads) (w
   pub done : status ≡ 0 → Does asked r w
   pub fault : status ≡ 1 → BeginsNothing r w ⊎ Fails words asked r w
   pub few : ReadsAll asked → ReadsFew r.bytes.old r.bytes.new
+
+-- words that are refused for this kind end with this status: 1 where memory is refused, 0 or 1 where help or the version
+-- is asked for, and 2 of a mistake
+pub record EndsOfKind (k : ErrorKind) (status : ℕ) : Type 0 where
+  pub memory : k ≡ kind.OutOfMemory → status ≡ 1
+  pub help : k ≡ kind.DisplayHelp → (status ≡ 0) ⊎ (status ≡ 1)
+  pub version : k ≡ kind.DisplayVersion → (status ≡ 0) ⊎ (status ≡ 1)
+  pub mistake : IsMistake k → status ≡ 2
+
+-- lists of orders that are refused end with this status
+abbrev pub EndsOrders : OrdersError → ℕ → Type 0
+EndsOrders orders_error.Memory status = status ≡ 1
+EndsOrders orders_error.Form status = status ≡ 2
+
+-- words in which clap finds nothing wrong, and which are refused so, end with this status: clap had no memory, or lists
+-- of orders are refused
+abbrev pub EndsAccepted : WordsError → ℕ → Type 0
+EndsAccepted (words_error.Clap e) status = status ≡ 1
+EndsAccepted (words_error.Orders e) status = EndsOrders e status
+
+-- what words that are refused leave: with 0 something is written, with 1 the writer has what it had or a call of it
+-- failed, with 2 it has what it had, and they have no other status
+pub record LeavesRefused (status : ℕ) (w : Writes) : Type 0 where
+  pub most : status ≤ 2
+  pub some : status ≡ 0 → AppendsSome w.contents.old w.contents.new
+  pub fault : status ≡ 1 → KeptOrFailed w
+  pub mistake : status ≡ 2 → Keeps w.contents.old w.contents.new
 
 -- words in which clap finds these faults end with this status: mistakes with 2, or with 1 where memory is refused; help
 -- and the version with 0 or 1, and with 0 something is written

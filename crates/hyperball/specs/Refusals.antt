@@ -10,6 +10,7 @@ use Rattle.hyperball.specs.Streams.{KeptOrFailed, Reads, Writes}
 use Rattle.hyperball.specs.Whole.{Parts, ReadsWhole, parts_in}
 use Rattle.hyperball.specs.declared.cli.run.JobFault.{JobFault}
 use Rattle.hyperball.specs.declared.cli.run.JobFault.TheVariants as fault
+use Rattle.hyperball.specs.declared.whole.Lack.TheVariants as lack
 use Rattle.node.specs.declared.limits.TheConstants.{MOST_BYTES}
 use Rattle.workers.specs.Options.{run_job}
 use Rattle.workers.specs.Run.{IsFaultIn, IsRunRefusal, RefusesEdges}
@@ -44,12 +45,13 @@ pub record RefusesInput (s : Settings) (counted : Bool) (input : List ℕ) (e : 
   pub of_edges : IsPlain parts.edges → RefusesEdges s parts.edges e
   pub refused : ArePlain parts.edges parts.list → IsRunRefusal s parts.edges parts.list e
 
--- what a fault says of the options, and of the input that a reader tells: only a run with a list reads it whole, and may
--- lack a part
+-- what a fault says of the options, and of the input that a reader tells: only a run with a list reads it whole, and all
+-- that it may lack is the list
 abbrev pub IsFault : RunOptions → Bool → Option (List ℕ) → JobFault → Type 0
 IsFault o counted told (fault.Input e) = counted ≡ true
 IsFault o counted told (fault.Lacks missing) =
-    (counted ≡ true) × IfSome told (λ input. parts_in counted false input ≡ Err missing)
+    (counted ≡ true) × ((missing ≡ lack.List)
+    × IfSome told (λ input. parts_in counted false input ≡ Err missing))
 IsFault o counted told (fault.Run e) =
     IsFaultIn o e × IfSome told (λ input. RefusesInput (settings_of (run_job o)) counted input e)
 

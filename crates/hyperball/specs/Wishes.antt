@@ -1,12 +1,13 @@
 -- What the words of a command line ask for.
-use Rattle.std.specs.Prelude.{◌≡◌, ⊤, Bool, true, List, [], Option, IfSome}
+use Rattle.std.specs.Prelude.{◌≡◌, ⊤, ◌⊎◌, Bool, true, List, [], Option, IfSome, IfOk, Ok, Result}
 use Rattle.clap.specs.Words.{Row, Text, subcommand_of}
 use Rattle.hyperball.specs.CommandLine.{Parsers, TakeNames, hyperball_app}
 use Rattle.hyperball.specs.Nodes.{AsksGather, AsksNode, IsGatherOf, IsNodeOf, NamesGather, NamesNode}
 use Rattle.hyperball.specs.Replaying.{AsksReplay, IsReplayOf, NamesReplay}
-use Rattle.hyperball.specs.Words.{AreListed, HasFaults, IsRunOf}
+use Rattle.hyperball.specs.Words.{AreListed, AsksProgress, GivesProgress, HasFaults, IsRunOf}
 use Rattle.hyperball.specs.declared.cli.Wish.{Wish}
 use Rattle.hyperball.specs.declared.cli.Wish.TheVariants as wish
+use Rattle.hyperball.specs.declared.cli.WordsError.{WordsError}
 use Rattle.hyperball.specs.declared.cli.gather.GatherWords.{GatherWords}
 use Rattle.hyperball.specs.declared.cli.one_node.NodeWords.{NodeWords}
 use Rattle.hyperball.specs.declared.cli.replay.ReplayWords.{ReplayWords}
@@ -52,6 +53,13 @@ Says (wish.Replay w) x = x ≡ wish.Replay w
 Says (wish.Node w) x = x ≡ wish.Node w
 Says (wish.Gather w) x = x ≡ wish.Gather w
 
+-- a wish that is asked for is the answer; that of a run whatever its lists of orders are, unless these are refused
+abbrev pub AnswersWish : Wish → Result Wish WordsError → Type 0
+AnswersWish (wish.Run w) result = IfOk result (Says (wish.Run w))
+AnswersWish (wish.Replay w) result = result ≡ Ok (wish.Replay w)
+AnswersWish (wish.Node w) result = result ≡ Ok (wish.Node w)
+AnswersWish (wish.Gather w) result = result ≡ Ok (wish.Gather w)
+
 -- the subcommand is that of the wish, but for a run
 abbrev pub NamesWish : Option (Text × List Row) → Wish → Type 0
 NamesWish sub (wish.Run w) = ⊤
@@ -65,6 +73,13 @@ AsksWish words (wish.Run w) = ⊤
 AsksWish words (wish.Replay w) = AsksReplay words
 AsksWish words (wish.Node w) = AsksNode words
 AsksWish words (wish.Gather w) = AsksGather words
+
+-- the words ask for another command than that of the wish: a replay, a node or a gathering
+abbrev pub AsksAnother : List Text → Wish → Type 0
+AsksAnother words (wish.Run w) = AsksReplay words ⊎ (AsksNode words ⊎ AsksGather words)
+AsksAnother words (wish.Replay w) = AsksNode words ⊎ AsksGather words
+AsksAnother words (wish.Node w) = AsksReplay words ⊎ AsksGather words
+AsksAnother words (wish.Gather w) = AsksReplay words ⊎ AsksNode words
 
 -- a run has the orders of the subcommand's options
 abbrev pub SaysListed : Option (Text × List Row) → Wish → Type 0
@@ -86,6 +101,18 @@ tells_progress (wish.Run w) = w.progress
 tells_progress (wish.Replay w) = w.progress
 tells_progress (wish.Node w) = w.progress
 tells_progress (wish.Gather w) = w.progress
+
+-- a wish as a subcommand and its options say it: its command, its lists of orders, and whether progress is to be told
+pub record IsOfSubcommand (sub : Option (Text × List Row)) (x : Wish) : Type 0 where
+  pub names : NamesWish sub x
+  pub listed : SaysListed sub x
+  pub progress : (b : Bool) → GivesProgress sub b → tells_progress x ≡ b
+
+-- a wish as the words say it
+pub record IsOfWords (words : List Text) (x : Wish) : Type 0 where
+  pub asks : AsksWish words x
+  pub orders : SaysOrders words x
+  pub progress : (b : Bool) → AsksProgress words b → tells_progress x ≡ b
 
 -- the input is to be read whole
 abbrev pub ReadsAll : Wish → Type 0

@@ -1,5 +1,5 @@
 -- What the words of a command line say.
-use Rattle.std.specs.Prelude.{◌≡◌, ◌≢◌, ⊤, ◌<◌, ◌^◌, ◌||◌, ℕ, Bool, true, false, List, [], Option, Some}
+use Rattle.std.specs.Prelude.{◌≡◌, ◌≢◌, ◌<◌, ◌^◌, ◌||◌, ℕ, Bool, true, false, List, [], Option, Some}
 use Rattle.std.specs.Prelude.{IfOk, IfSome, MatchOption, MatchResult, Result, String, is_some, codes, map, string_bytes}
 use Rattle.std.specs.Global.{Global}
 use Rattle.std.specs.List.{AllByRecursion}
@@ -18,6 +18,8 @@ use Rattle.edgelist.specs.declared.read.Delimiter.TheVariants.{Tab, Comma, Space
 use Rattle.ball_model.specs.declared.names.NodeId.{NodeId}
 use Rattle.edgelist.specs.declared.job.JobOptions.{JobOptions}
 use Rattle.hyperball.specs.declared.cli.run.RunWords.{RunWords}
+use Rattle.hyperball.specs.declared.cli.orders.OrdersError.{OrdersError}
+use Rattle.hyperball.specs.declared.cli.orders.OrdersError.TheVariants as orders_error
 use Rattle.hyperball.specs.declared.cli.WordsError.{WordsError}
 use Rattle.hyperball.specs.declared.cli.WordsError.TheVariants as words
 use Rattle.hyperball.specs.CommandLine.{Parsers, TakeNames, hyperball_app}
@@ -141,6 +143,11 @@ GivesLists sub = MatchOption sub ⊥ (λ s. SpellLists s.1)
 abbrev pub MisspellsLists : Option (Text × List Row) → Type 0
 MisspellsLists sub = MatchOption sub ⊥ (λ s. SpellLists s.1 → ⊥)
 
+-- why a subcommand's lists of orders are refused: one is not of its form; or each is, and memory was refused
+abbrev pub RefusesLists : Option (Text × List Row) → OrdersError → Type 0
+RefusesLists sub orders_error.Form = GivesOrders sub × MisspellsLists sub
+RefusesLists sub orders_error.Memory = GivesLists sub
+
 -- the subcommand has the flag of progress or not
 abbrev pub GivesProgress : Option (Text × List Row) → Bool → Type 0
 GivesProgress sub b = IfSome sub (λ s. IsFlag s.1 (codes "progress") b)
@@ -170,6 +177,11 @@ pub record HasNoLists (words : List Text) : Type 0 where
   pub parsers : Parsers
   pub take : TakeNames parsers
   pub misspelt : MisspellsLists (subcommand_of (hyperball_app parsers) words)
+
+-- why the lists of orders in the words are refused: one is not of its form; or each is, and memory was refused
+abbrev pub RefusesOrders : List Text → OrdersError → Type 0
+RefusesOrders words orders_error.Form = HasOrders words × HasNoLists words
+RefusesOrders words orders_error.Memory = HasLists words
 
 -- parsers take their names, and the program's command with them reads the words so
 pub record ParsesTo (words : List Text) (result : Result ArgMatches Error) : Type 0 where

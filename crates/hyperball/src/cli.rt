@@ -1,18 +1,15 @@
 //! The command line, read by `clap`: the subcommands, each in a file with its words and what they do, and what the words
 //! of a whole line ask for.
 
-ghost use Rattle.std.specs.Prelude.{◌≡◌, [], Bool, Err, IfOk, List, Ok, true};
+ghost use Rattle.std.specs.Prelude.{◌≡◌, [], Err, IfOk, List, true};
 ghost use Rattle.clap.specs.Words.{App, has_subcommand, subcommand_rows_of, with_subcommand};
 ghost use Rattle.clap.specs.declared.error.kind.ErrorKind.{ErrorKind};
 ghost use Rattle.hyperball.specs.CommandLine.{IsApp, Parsers, TakeNames, hyperball_app};
 ghost use Rattle.hyperball.specs.CommandLine.{new_hyperball};
-ghost use Rattle.hyperball.specs.Nodes.{IsGatherOf, IsNodeOf};
-ghost use Rattle.hyperball.specs.Replaying.{IsReplayOf};
-ghost use Rattle.hyperball.specs.Wishes.{AsksWish, IsWish, NamesWish, Says, SaysListed};
-ghost use Rattle.hyperball.specs.Wishes.{SaysOrders, tells_progress};
-ghost use Rattle.hyperball.specs.Words.{AsksProgress, FailsWith, GivesLists, GivesOrders};
-ghost use Rattle.hyperball.specs.Words.{GivesProgress, HasFaults, HasLists, HasNoLists};
-ghost use Rattle.hyperball.specs.Words.{HasOrders, IsRunOf, MisspellsLists, ParsesTo, texts_of};
+ghost use Rattle.hyperball.specs.Wishes.{AnswersWish, IsOfSubcommand, IsOfWords, IsWish, IsWishOf};
+ghost use Rattle.hyperball.specs.Wishes.{Says, tells_progress};
+ghost use Rattle.hyperball.specs.Words.{FailsWith, HasFaults, ParsesTo, RefusesLists};
+ghost use Rattle.hyperball.specs.Words.{RefusesOrders, texts_of};
 
 pub mod arguments;
 pub mod gather;
@@ -128,25 +125,11 @@ pub enum WordsError {
 // What the words of a subcommand say.
 fn wish_of(alloc: Global, matches: &ArgMatches<'_>) -> Result<Wish, WordsError>
     requires { has_subcommand matches.now ≡ true }
-    ensures run { (w : RunWords) → IsRunOf (subcommand_rows_of matches.now) w →
-        IfOk result (Says (Wish.Run w)) }
-    ensures replay { (w : ReplayWords) → IsReplayOf (subcommand_rows_of matches.now) w →
-        result ≡ Ok (Wish.Replay w) }
-    ensures node { (w : NodeWords) → IsNodeOf (subcommand_rows_of matches.now) w →
-        result ≡ Ok (Wish.Node w) }
-    ensures gather { (w : GatherWords) → IsGatherOf (subcommand_rows_of matches.now) w →
-        result ≡ Ok (Wish.Gather w) }
-    ensures names { IfOk result (NamesWish (subcommand_rows_of matches.now)) }
-    ensures orders { IfOk result (SaysListed (subcommand_rows_of matches.now)) }
-    ensures progress { (b : Bool) → GivesProgress (subcommand_rows_of matches.now) b →
-        IfOk result (λ wish. tells_progress wish ≡ b) }
+    ensures asked { (x : Wish) → IsWishOf (subcommand_rows_of matches.now) x → AnswersWish x result }
+    ensures found { IfOk result (IsOfSubcommand (subcommand_rows_of matches.now)) }
     ensures none { FailsWith [] result }
-    ensures form { result ≡ Err (WordsError.Orders OrdersError.Form) →
-        GivesOrders (subcommand_rows_of matches.now) }
-    ensures misspelt { result ≡ Err (WordsError.Orders OrdersError.Form) →
-        MisspellsLists (subcommand_rows_of matches.now) }
-    ensures memory { result ≡ Err (WordsError.Orders OrdersError.Memory) →
-        GivesLists (subcommand_rows_of matches.now) }
+    ensures lists { (e : OrdersError) → result ≡ Err (WordsError.Orders e) →
+        RefusesLists (subcommand_rows_of matches.now) e }
 {
     match matches.subcommand().unwrap() {
         ("replay", inner) => Ok(Wish::Replay(replay_words_of(inner))),
@@ -163,19 +146,12 @@ fn wish_of(alloc: Global, matches: &ArgMatches<'_>) -> Result<Wish, WordsError>
 /// `clap` finds nothing wrong.
 pub fn read_words(alloc: Global, words: &[String]) -> Result<Wish, WordsError>
     ensures asked { (x : Wish) → IsWish (texts_of words.now) x → IfOk result (Says x) }
-    ensures asks { IfOk result (AsksWish (texts_of words.now)) }
-    ensures orders { IfOk result (SaysOrders (texts_of words.now)) }
-    ensures progress { (b : Bool) → AsksProgress (texts_of words.now) b →
-        IfOk result (λ wish. tells_progress wish ≡ b) }
+    ensures found { IfOk result (IsOfWords (texts_of words.now)) }
     ensures faults { (kinds : List ErrorKind) → HasFaults (texts_of words.now) kinds →
         FailsWith kinds result }
-    ensures form { result ≡ Err (WordsError.Orders OrdersError.Form) →
-        HasOrders (texts_of words.now) }
     // Lists of orders are refused only where one is not of its form, and memory for them only where each is.
-    ensures misspelt { result ≡ Err (WordsError.Orders OrdersError.Form) →
-        HasNoLists (texts_of words.now) }
-    ensures memory { result ≡ Err (WordsError.Orders OrdersError.Memory) →
-        HasLists (texts_of words.now) }
+    ensures lists { (e : OrdersError) → result ≡ Err (WordsError.Orders e) →
+        RefusesOrders (texts_of words.now) e }
 {
     match parse(alloc, words) {
         Ok(matches) => wish_of(alloc, &matches),

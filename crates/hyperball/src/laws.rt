@@ -16,16 +16,13 @@ ghost use Rattle.hyperball.specs.LawWords.{space_words, gathered_job, telling_ga
 ghost use Rattle.hyperball.specs.LawWords.{telling_node, third_node, usual_node, usual_replay};
 ghost use Rattle.hyperball.specs.LawWords.{one_order, two_orders};
 ghost use Rattle.hyperball.specs.Orders.{AreOrders};
-ghost use Rattle.hyperball.specs.Nodes.{AsksGather, AsksNode};
 ghost use Rattle.hyperball.specs.Progress.{IsLineBehind, line_of, mark_of_program};
-ghost use Rattle.hyperball.specs.Replaying.{AsksReplay};
-ghost use Rattle.hyperball.specs.Wishes.{IsGather, IsNode, IsReplay, IsRun};
+ghost use Rattle.hyperball.specs.Wishes.{AsksAnother, AsksWish, IsGather, IsNode, IsReplay};
+ghost use Rattle.hyperball.specs.Wishes.{IsRun, IsWish};
 ghost use Rattle.hyperball.specs.Words.{AsksProgress, HasFaults};
-ghost use Rattle.hyperball.specs.declared.cli.gather.GatherWords.{GatherWords};
-ghost use Rattle.hyperball.specs.declared.cli.one_node.NodeWords.{NodeWords};
-ghost use Rattle.hyperball.specs.declared.cli.replay.ReplayWords.{ReplayWords};
-ghost use Rattle.hyperball.specs.declared.lines.News.{News};
+ghost use Rattle.hyperball.specs.declared.cli.Wish.{Wish};
 ghost use Rattle.hyperball.specs.declared.cli.run.RunWords.{RunWords};
+ghost use Rattle.hyperball.specs.declared.lines.News.{News};
 
 /// These words are read as those of run; an option that is not given has its default. (Of lists of orders nothing is said
 /// here.)
@@ -167,8 +164,7 @@ pub fn words_of_no_command()
         (UnknownArgument ∷ []) }
 {}
 
-/// These words ask for progress, and these do not; nor do words that are refused or ask for help. Words of a command
-/// never do both.
+/// These words ask for progress. Words of a command never both ask for it and do not.
 pub fn words_of_progress()
     ensures run { AsksProgress
         (codes "hyperball" ∷ codes "run" ∷ codes "--progress" ∷ codes "--parts" ∷ codes "2" ∷ [])
@@ -182,25 +178,23 @@ pub fn words_of_progress()
     ensures gather { AsksProgress
         (codes "hyperball" ∷ codes "gather" ∷ codes "--progress" ∷ [])
         true }
-    ensures plain { AsksProgress
+    ensures one { (words : List Text) (x : Wish) → IsWish words x →
+        AsksProgress words true → AsksProgress words false → ⊥ }
+{}
+
+/// These words do not ask for progress; nor do words that are refused or ask for help.
+pub fn words_of_no_progress()
+    ensures run { AsksProgress
         (codes "hyperball" ∷ codes "run" ∷ codes "--parts" ∷ codes "2" ∷ [])
         false }
-    ensures plain_node { AsksProgress
+    ensures node { AsksProgress
         (codes "hyperball" ∷ codes "node" ∷ [])
         false }
-    ensures plain_gather { AsksProgress
+    ensures gather { AsksProgress
         (codes "hyperball" ∷ codes "gather" ∷ codes "--parts=3" ∷ [])
         false }
     ensures refused { (words : List Text) (kinds : List Kind) → HasFaults words kinds →
         kinds ≢ [] → AsksProgress words false }
-    ensures one { (words : List Text) (w : RunWords) → IsRun words w →
-        AsksProgress words true → AsksProgress words false → ⊥ }
-    ensures one_replay { (words : List Text) (w : ReplayWords) → IsReplay words w →
-        AsksProgress words true → AsksProgress words false → ⊥ }
-    ensures one_node { (words : List Text) (w : NodeWords) → IsNode words w →
-        AsksProgress words true → AsksProgress words false → ⊥ }
-    ensures one_gather { (words : List Text) (w : GatherWords) → IsGather words w →
-        AsksProgress words true → AsksProgress words false → ⊥ }
 {}
 
 /// Each line of progress begins with `hyperball: `, and has one LF, at its end.
@@ -208,24 +202,10 @@ pub fn lines_of_progress()
     ensures { (news : News) → IsLineBehind mark_of_program (line_of news) }
 {}
 
-/// Words of a command are those of no other, and words that are read as those of a command ask for it.
+/// Words that are read as those of a command ask for it, and for no other.
 pub fn words_of_one_command()
-    ensures run { (words : List Text) (w : RunWords) → IsRun words w → AsksReplay words → ⊥ }
-    ensures run_node { (words : List Text) (w : RunWords) → IsRun words w → AsksNode words → ⊥ }
-    ensures run_gather { (words : List Text) (w : RunWords) → IsRun words w → AsksGather words → ⊥ }
-    ensures replay { (words : List Text) (w : ReplayWords) → IsReplay words w → AsksReplay words }
-    ensures replay_node { (words : List Text) (w : ReplayWords) → IsReplay words w →
-        AsksNode words → ⊥ }
-    ensures replay_gather { (words : List Text) (w : ReplayWords) → IsReplay words w →
-        AsksGather words → ⊥ }
-    ensures node { (words : List Text) (w : NodeWords) → IsNode words w → AsksNode words }
-    ensures node_replay { (words : List Text) (w : NodeWords) → IsNode words w → AsksReplay words → ⊥ }
-    ensures node_gather { (words : List Text) (w : NodeWords) → IsNode words w → AsksGather words → ⊥ }
-    ensures gather { (words : List Text) (w : GatherWords) → IsGather words w → AsksGather words }
-    ensures gather_replay { (words : List Text) (w : GatherWords) → IsGather words w →
-        AsksReplay words → ⊥ }
-    ensures gather_node { (words : List Text) (w : GatherWords) → IsGather words w →
-        AsksNode words → ⊥ }
+    ensures asked { (words : List Text) (x : Wish) → IsWish words x → AsksWish words x }
+    ensures another { (words : List Text) (x : Wish) → IsWish words x → AsksAnother words x → ⊥ }
 {}
 
 /// These texts are lists of orders, and these are none: a superstep is wanted, without leading zeros, and no list ends

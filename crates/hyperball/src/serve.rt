@@ -1,18 +1,17 @@
 //! From words and bytes to bytes and a status.
 
-ghost use Rattle.std.specs.Prelude.{◌≡◌, ◌≢◌, ◌≤◌, ◌⊎◌, ◌∷◌, [], List, false, IfErr, IfSome, None};
-ghost use Rattle.std.specs.Prelude.{OnOk, Option, ℕ};
+ghost use Rattle.std.specs.Prelude.{◌≡◌, ◌≤◌, ◌⊎◌, [], List, false, IfErr, IfSome, None, OnOk};
+ghost use Rattle.std.specs.Prelude.{Option, ℕ};
 ghost use Rattle.std.specs.Io.KnownBytes.{Appends, Keeps};
 ghost use Rattle.clap.specs.Words.{kind_of};
-ghost use Rattle.clap.specs.declared.error.kind.ErrorKind.TheVariants as kind;
-ghost use Rattle.hyperball.specs.Ends.{Does, Ends, EndsMistaken, EndsRefused, FailsBy, FailsWish};
-ghost use Rattle.hyperball.specs.Ends.{LeavesFault};
+ghost use Rattle.hyperball.specs.Ends.{Does, Ends, EndsAccepted, EndsMistaken, EndsOfKind};
+ghost use Rattle.hyperball.specs.Ends.{EndsOrders, EndsRefused, FailsBy, FailsWish, LeavesFault};
+ghost use Rattle.hyperball.specs.Ends.{LeavesRefused};
 ghost use Rattle.hyperball.specs.Progress.{Awaits, TellsAsAsked, TellsProgress};
 ghost use Rattle.hyperball.specs.Streams.{AppendsSome, KeptOrFailed, reads_of, writes_of};
 ghost use Rattle.hyperball.specs.Whole.{ReadsFew};
 ghost use Rattle.hyperball.specs.Wishes.{IsWish, ReadsAll, tells_progress};
-ghost use Rattle.hyperball.specs.Words.{AreMistakes, AsksProgress, FailsFor, HasFaults};
-ghost use Rattle.hyperball.specs.Words.{IsMistake, texts_of};
+ghost use Rattle.hyperball.specs.Words.{AsksProgress, FailsFor, HasFaults, texts_of};
 
 use crate::cli::gather::gather_by;
 use crate::cli::one_node::node_by;
@@ -86,15 +85,9 @@ fn tell_clap<W: CountedWrite, F: Write>(
     writer: &mut W,
     faults: &mut F,
 ) -> u8
-    ensures status { result ≤ 2 }
-    ensures memory { kind_of error.now ≡ kind.OutOfMemory → result ≡ 1 }
-    ensures help { kind_of error.now ≡ kind.DisplayHelp → (result ≡ 0) ⊎ (result ≡ 1) }
-    ensures version { kind_of error.now ≡ kind.DisplayVersion → (result ≡ 0) ⊎ (result ≡ 1) }
-    ensures some { result ≡ 0 → AppendsSome (W.contents writer.old) (W.contents writer.new) }
-    ensures mistake { IsMistake (kind_of error.now) → result ≡ 2 }
-    ensures kept { result ≡ 1 →
-        KeptOrFailed (writes_of W.contents W.failed_calls writer.old writer.new) }
-    ensures mistaken { result ≡ 2 → Keeps (W.contents writer.old) (W.contents writer.new) }
+    ensures status { EndsOfKind (kind_of error.now) result }
+    ensures left { LeavesRefused result
+        (writes_of W.contents W.failed_calls writer.old writer.new) }
     ensures silent { result ≡ 0 → Keeps (F.contents faults.old) (F.contents faults.new) }
 {
     match error.kind() {
@@ -111,8 +104,7 @@ fn tell_clap<W: CountedWrite, F: Write>(
 
 // Tells a mistake in a list of orders, or that memory was refused.
 fn tell_orders<F: Write>(faults: &mut F, error: OrdersError) -> u8
-    ensures memory { error ≡ OrdersError.Memory → result ≡ 1 }
-    ensures form { error ≡ OrdersError.Form → result ≡ 2 }
+    ensures ends { EndsOrders error result }
     ensures status { (result ≡ 1) ⊎ (result ≡ 2) }
 {
     match error {
@@ -134,19 +126,12 @@ fn tell_words<W: CountedWrite, F: Write>(
     writer: &mut W,
     faults: &mut F,
 ) -> u8
-    ensures status { result ≤ 2 }
-    ensures mistake { (kinds : List ErrorKind) → FailsFor kinds error.now → AreMistakes kinds →
-        (result ≡ 2) ⊎ (result ≡ 1) }
-    ensures help { FailsFor (kind.DisplayHelp ∷ []) error.now → (result ≡ 0) ⊎ (result ≡ 1) }
-    ensures version { FailsFor (kind.DisplayVersion ∷ []) error.now →
-        (result ≡ 0) ⊎ (result ≡ 1) }
-    ensures some { result ≡ 0 → AppendsSome (W.contents writer.old) (W.contents writer.new) }
-    ensures refused { FailsFor [] error.now → result ≢ 0 }
-    ensures two { result ≡ 2 → FailsFor [] error.now →
-        error.now ≡ WordsError.Orders OrdersError.Form }
-    ensures kept { result ≡ 1 →
-        KeptOrFailed (writes_of W.contents W.failed_calls writer.old writer.new) }
-    ensures mistaken { result ≡ 2 → Keeps (W.contents writer.old) (W.contents writer.new) }
+    ensures refused { (kinds : List ErrorKind) → FailsFor kinds error.now →
+        EndsRefused kinds result
+        (writes_of W.contents W.failed_calls writer.old writer.new) }
+    ensures accepted { FailsFor [] error.now → EndsAccepted error.now result }
+    ensures left { LeavesRefused result
+        (writes_of W.contents W.failed_calls writer.old writer.new) }
     ensures silent { result ≡ 0 → Keeps (F.contents faults.old) (F.contents faults.new) }
 {
     match error {

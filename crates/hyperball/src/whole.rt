@@ -6,7 +6,8 @@ ghost use Rattle.std.specs.Prelude.{IfErr, IfOk, None, Ok, OnOk, Some, option_ma
 ghost use Rattle.ball_model.specs.Streams.{Rises, RisesByOne, TakesAtMost};
 ghost use Rattle.ball_model.specs.Sections.{after_mark, sections_of};
 ghost use Rattle.ball_model.specs.RunText.{list_in};
-ghost use Rattle.hyperball.specs.Whole.{IsLong, IsWholeInput, ReadsFew, parts_in};
+ghost use Rattle.hyperball.specs.Streams.{reads_of};
+ghost use Rattle.hyperball.specs.Whole.{IsLong, IsWholeInput, ReadsFew, ReadsWhole, parts_in};
 
 use ball_model::{CountedRead, Filled, fill};
 use node::limits::MOST_BYTES;
@@ -134,15 +135,9 @@ fn read_all<R: CountedRead>(
 pub fn read_whole<R: CountedRead>(alloc: Global, reader: &mut R) -> Result<Vec<u8>, WholeError>
     ensures ok { IfOk result (λ bytes. IsWholeInput (R.remaining reader.old) bytes.items) }
     ensures within { IfOk result (λ bytes. length bytes.items ≤ MOST_BYTES) }
-    ensures size { result ≡ Err WholeError.Size → IsLong (R.remaining reader.old) }
-    ensures memory { result ≡ Err WholeError.Memory →
-        TakesAtMost MOST_BYTES (R.remaining reader.old) (R.remaining reader.new) }
-    ensures read { result ≡ Err WholeError.Read →
-        RisesByOne (R.failed_calls reader.old) (R.failed_calls reader.new) }
-    ensures failed { Rises (R.failed_calls reader.old) (R.failed_calls reader.new) →
-        result ≡ Err WholeError.Read }
-    ensures sure { R.sure_calls reader.old ≡ None → result ≢ Err WholeError.Read }
-    ensures few { ReadsFew (R.remaining reader.old) (R.remaining reader.new) }
+    ensures reads { ReadsWhole
+        (reads_of R.remaining R.failed_calls R.sure_calls reader.old reader.new)
+        (λ e. result ≡ Err e) }
 {
     let mut buffer = buffer_of(alloc, PIECE)?;
     let mut bytes = Vec::new(alloc);

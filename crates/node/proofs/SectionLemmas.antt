@@ -6,7 +6,9 @@ use Rattle.std.proofs.KnownBytes.{prepend_known-end}
 use Rattle.std.proofs.lemmas.Bool.{and_parts, eqb-true}
 use Rattle.ball_model.specs.Sections.{after_line, after_mark, longer, sections_from, sections_of, sections_or}
 use Rattle.world.proofs.ScriptLemmas.{behind, behind-longer}
-use Rattle.node.specs.Section.{EndsAtMark, EndsOf, Gives, GivesOf, HasNoMark, IsAhead, IsPast, ReadsSection, before_mark, first_or, is_front, is_tail}
+use Rattle.node.specs.Section.{DoesStep, EndsAtMark, EndsOf, Gives, GivesOf, HasNoMark, IsAhead, IsByteOrEnd, IsPast, LeavesAhead, ReadsSection, before_mark, first_or, is_front, is_tail}
+use Rattle.node.specs.declared.section.SectionStep.{SectionStep}
+use Rattle.node.specs.declared.section.SectionStep.TheVariants as step
 
 -- ---- one byte more than a front
 
@@ -209,6 +211,25 @@ unmarked xs ys c (Some t) (Some u) k is none end =
 
 pub ended : (xs : List ℕ) (a b : Option (List ℕ)) → Keeps a (prepend_known xs b) → xs ≡ [] → (is_front xs ≡ true → IsAtEnd b) → IsAtEnd a
 ended xs a b k none end = prepend_known-end a b xs k none (end (subst (λ (l : List ℕ). is_front l ≡ true) (sym none) refl))
+
+-- there is some byte ahead
+pub some_ahead : (xs : List ℕ) (empty : Bool) → empty ≡ (length xs == 0) → empty ≡ false → xs ≡ [] → ⊥
+some_ahead [] empty is none nil = absurd (cc)
+some_ahead (x ∷ xs) empty is none nil = absurd (cc)
+
+-- ---- a step, by what came of it
+-- it gave a byte that was read ahead, or there is none more
+pub stepped : (begins : Bool) (old new left : Option (List ℕ)) (r : SectionStep) → IsByteOrEnd r → ((b : ℕ) → r ≡ step.Byte b → Gives begins b old new) → (r ≡ step.End → IsAtEnd old) → DoesStep begins old new left r
+stepped begins old new left (step.Byte b) kind byte end = byte b refl
+stepped begins old new left step.Mark kind byte end = absurd kind
+stepped begins old new left step.End kind byte end = end refl
+stepped begins old new left step.Failed kind byte end = absurd kind
+
+pub stepped_ahead : (begins : Bool) (r : SectionStep) (xs : List ℕ) → IsByteOrEnd r → ((b : ℕ) → r ≡ step.Byte b → IsAhead (b == 10) xs) → (r ≡ step.End → xs ≡ []) → LeavesAhead begins r xs
+stepped_ahead begins (step.Byte b) xs kind byte end = byte b refl
+stepped_ahead begins step.Mark xs kind byte end = absurd kind
+stepped_ahead begins step.End xs kind byte end = end refl
+stepped_ahead begins step.Failed xs kind byte end = absurd kind
 
 -- ---- many steps
 -- some bytes of a section were passed: it goes on with what is left, where a line begins or not

@@ -1,7 +1,7 @@
 -- Requests, one after the other.
-use Rattle.std.proofs.Common.{◌≡◌, ◌≢◌, ◌∙◌, ◌⊎◌, inl, inr, ℕ, ◌+◌, ◌^◌, ◌<◌, ◌≤◌, Bool, List, [], ◌∷◌, ◌++◌, length, refl, ap, sym, subst, append_assoc, append-nil, length-append, take}
+use Rattle.std.proofs.Common.{◌≡◌, ◌∙◌, ◌⊎◌, inl, inr, ℕ, ◌+◌, ◌^◌, ◌<◌, ◌≤◌, Bool, List, [], ◌∷◌, ◌++◌, length, refl, ap, sym, subst, append_assoc, append-nil, length-append, take}
 use Rattle.std.specs.Prelude.{Option, Some, Result, Err}
-use Rattle.std.specs.Io.KnownBytes.{Appends, Consumes, IsAtEnd, Keeps}
+use Rattle.std.specs.Io.KnownBytes.{Appends, Consumes, Keeps}
 use Rattle.std.proofs.KnownBytes.{Appends-kept, Appends-nil, Appends-trans, Consumes-nil, Consumes-trans}
 use Rattle.std.proofs.lemmas.List.{flat_map_more}
 use Rattle.std.proofs.lemmas.List.Elements.{All-nil, All-push}
@@ -22,7 +22,6 @@ use Rattle.node.specs.declared.error.ServeError.TheVariants as fault
 use Rattle.node.specs.declared.error.ServeNodeError.{ServeNodeError}
 use Rattle.node.specs.declared.error.ServeNodeError.TheVariants as node_fault
 use Rattle.node.specs.Stream.{CutLine, CutsBody, HasNoEnd, LongLine, ReadsBody, ReadsInLine}
-use Rattle.node.specs.declared.input.TheConstants.{MOST_LINE}
 use Rattle.node.specs.Serving.{AnswersEach, AppendsAnswers, AreNamed, AreTold, CutShort, IfRefused, IsNoRequest, IsOfMachine, LacksRoom, NoCommand, ReadsCommand, ReadsRequest, Runs, ServesRest, ServesNode, ServesNone, ServesOne, ServesSome, Steps, StopsServing, StopsNode, StopsWanting, WantsNode, serve_error_of}
 use Rattle.node.specs.Turns.{Holds, most_body}
 use Rattle.world.specs.declared.tell.TellError.{TellError}

@@ -1,5 +1,6 @@
 -- Sections on a stream: what may be the front of a mark, and what a step through a section does.
 use Rattle.std.specs.Prelude.{◌≡◌, ⊤, ℕ, Bool, true, false, not, ◌==◌, ◌&&◌, List, [], ◌∷◌, Option, None, Some, IfSome}
+use Rattle.std.specs.Io.KnownBytes.{IsAtEnd, Keeps}
 use Rattle.ball_model.specs.Sections.{after_mark, longer, sections_from, sections_of}
 use Rattle.node.specs.declared.section.SectionStep.{SectionStep}
 use Rattle.node.specs.declared.section.SectionStep.TheVariants as step
@@ -47,12 +48,20 @@ pub record EndsOf (begins : Bool) (text : List ℕ) (new : Option (List ℕ)) : 
 abbrev pub EndsAtMark : Bool → Option (List ℕ) → Option (List ℕ) → Type 0
 EndsAtMark begins old new = IfSome old (λ text. EndsOf begins text new)
 
--- the section has ended
-abbrev pub IsOver : SectionStep → Type 0
-IsOver (step.Byte b) = ⊥
-IsOver step.Mark = ⊤
-IsOver step.End = ⊤
-IsOver step.Failed = ⊥
+-- what a step through a section does, by what came of it. `old` and `new` are the bytes that were to come and those that
+-- are, with what was read ahead; `left` is what the reader has
+abbrev pub DoesStep : Bool → Option (List ℕ) → Option (List ℕ) → Option (List ℕ) → SectionStep → Type 0
+DoesStep begins old new left (step.Byte b) = Gives begins b old new
+DoesStep begins old new left step.Mark = EndsAtMark begins old left
+DoesStep begins old new left step.End = IsAtEnd old
+DoesStep begins old new left step.Failed = Keeps old new
+
+-- what is read ahead after a step: nothing where the section has ended, and as before where a call failed
+abbrev pub LeavesAhead : Bool → SectionStep → List ℕ → Type 0
+LeavesAhead begins (step.Byte b) ahead = IsAhead (b == 10) ahead
+LeavesAhead begins step.Mark ahead = ahead ≡ []
+LeavesAhead begins step.End ahead = ahead ≡ []
+LeavesAhead begins step.Failed ahead = IsAhead begins ahead
 
 abbrev pub IsByteOrEnd : SectionStep → Type 0
 IsByteOrEnd (step.Byte b) = ⊤

@@ -7,8 +7,8 @@ ghost use Rattle.std.specs.Prelude.{◌≡◌, ◌≢◌, ℕ, ◌∷◌, ◌==�
 ghost use Rattle.std.specs.Io.KnownBytes.{Consumes, IsAtEnd, Keeps, prepend_known};
 ghost use Rattle.ball_model.specs.Sections.{after_line, after_mark};
 ghost use Rattle.ball_model.specs.Streams.{RisesByOne};
-ghost use Rattle.node.specs.Section.{EndsAtMark, Gives, IsAhead, IsByteOrEnd, IsOver, IsPast};
-ghost use Rattle.node.specs.Section.{is_front, is_tail};
+ghost use Rattle.node.specs.Section.{DoesStep, EndsAtMark, Gives, IsAhead, IsByteOrEnd, IsPast};
+ghost use Rattle.node.specs.Section.{LeavesAhead, is_front, is_tail};
 ghost use Rattle.node.specs.Stream.{FailsAs};
 
 use arrayvec::ArrayVec;
@@ -166,20 +166,9 @@ fn first_of(ahead: &mut ArrayVec<u8, 4>) -> SectionStep
 // A step where a line begins.
 fn step_at_line<R: CountedRead>(reader: &mut R, ahead: &mut ArrayVec<u8, 4>) -> SectionStep
     requires { is_front ahead.old.items ≡ true }
-    ensures byte { (b : ℕ) → result ≡ SectionStep.Byte b → Gives true b
-        (prepend_known ahead.old.items (R.remaining reader.old))
-        (prepend_known ahead.new.items (R.remaining reader.new)) }
-    ensures ahead { (b : ℕ) → result ≡ SectionStep.Byte b → IsAhead (b == 10) ahead.new.items }
-    ensures mark { result ≡ SectionStep.Mark → EndsAtMark true
-        (prepend_known ahead.old.items (R.remaining reader.old)) (R.remaining reader.new) }
-    ensures marked { result ≡ SectionStep.Mark → ahead.new.items ≡ [] }
-    ensures end { result ≡ SectionStep.End →
-        IsAtEnd (prepend_known ahead.old.items (R.remaining reader.old)) }
-    ensures ended { result ≡ SectionStep.End → ahead.new.items ≡ [] }
-    ensures kept { result ≡ SectionStep.Failed →
-        Keeps (prepend_known ahead.old.items (R.remaining reader.old))
-        (prepend_known ahead.new.items (R.remaining reader.new)) }
-    ensures front { result ≡ SectionStep.Failed → is_front ahead.new.items ≡ true }
+    ensures does { DoesStep true (prepend_known ahead.old.items (R.remaining reader.old))
+        (prepend_known ahead.new.items (R.remaining reader.new)) (R.remaining reader.new) result }
+    ensures ahead { LeavesAhead true result ahead.new.items }
     ensures failed { FailsAs R.failed_calls reader.old reader.new result SectionStep.Failed }
 {
     if !look(reader, ahead) {
@@ -197,18 +186,11 @@ fn step_at_line<R: CountedRead>(reader: &mut R, ahead: &mut ArrayVec<u8, 4>) -> 
 // A step within a line.
 fn step_in_line<R: CountedRead>(reader: &mut R, ahead: &mut ArrayVec<u8, 4>) -> SectionStep
     requires { is_tail ahead.old.items ≡ true }
-    ensures byte { (b : ℕ) → result ≡ SectionStep.Byte b → Gives false b
-        (prepend_known ahead.old.items (R.remaining reader.old))
-        (prepend_known ahead.new.items (R.remaining reader.new)) }
-    ensures ahead { (b : ℕ) → result ≡ SectionStep.Byte b → IsAhead (b == 10) ahead.new.items }
+    ensures does { DoesStep false (prepend_known ahead.old.items (R.remaining reader.old))
+        (prepend_known ahead.new.items (R.remaining reader.new)) (R.remaining reader.new) result }
+    ensures ahead { LeavesAhead false result ahead.new.items }
     ensures mark { result ≢ SectionStep.Mark }
-    ensures end { result ≡ SectionStep.End →
-        IsAtEnd (prepend_known ahead.old.items (R.remaining reader.old)) }
-    ensures ended { result ≡ SectionStep.End → ahead.new.items ≡ [] }
-    ensures kept { result ≡ SectionStep.Failed →
-        Keeps (prepend_known ahead.old.items (R.remaining reader.old))
-        (prepend_known ahead.new.items (R.remaining reader.new)) }
-    ensures front { result ≡ SectionStep.Failed → ahead.new.items ≡ [] }
+    ensures empty { result ≡ SectionStep.Failed → ahead.new.items ≡ [] }
     ensures failed { FailsAs R.failed_calls reader.old reader.new result SectionStep.Failed }
 {
     if !ahead.is_empty() {
@@ -224,19 +206,9 @@ fn step_in_line<R: CountedRead>(reader: &mut R, ahead: &mut ArrayVec<u8, 4>) -> 
 // A step where a line begins, or within one.
 fn step_of<R: CountedRead>(reader: &mut R, begins: bool, ahead: &mut ArrayVec<u8, 4>) -> SectionStep
     requires { IsAhead begins ahead.old.items }
-    ensures byte { (b : ℕ) → result ≡ SectionStep.Byte b → Gives begins b
-        (prepend_known ahead.old.items (R.remaining reader.old))
-        (prepend_known ahead.new.items (R.remaining reader.new)) }
-    ensures ahead { (b : ℕ) → result ≡ SectionStep.Byte b → IsAhead (b == 10) ahead.new.items }
-    ensures mark { result ≡ SectionStep.Mark → EndsAtMark begins
-        (prepend_known ahead.old.items (R.remaining reader.old)) (R.remaining reader.new) }
-    ensures over { IsOver result → ahead.new.items ≡ [] }
-    ensures end { result ≡ SectionStep.End →
-        IsAtEnd (prepend_known ahead.old.items (R.remaining reader.old)) }
-    ensures kept { result ≡ SectionStep.Failed →
-        Keeps (prepend_known ahead.old.items (R.remaining reader.old))
-        (prepend_known ahead.new.items (R.remaining reader.new)) }
-    ensures still { result ≡ SectionStep.Failed → IsAhead begins ahead.new.items }
+    ensures does { DoesStep begins (prepend_known ahead.old.items (R.remaining reader.old))
+        (prepend_known ahead.new.items (R.remaining reader.new)) (R.remaining reader.new) result }
+    ensures ahead { LeavesAhead begins result ahead.new.items }
     ensures failed { FailsAs R.failed_calls reader.old reader.new result SectionStep.Failed }
 {
     if begins {

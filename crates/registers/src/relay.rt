@@ -182,7 +182,8 @@ impl Relay {
             ..
         } = self;
         mark_all(behind, marks);
-        replace(rt, depth, own, out, ahead, marks);
+        part(own, out);
+        take_over(rt, depth, own, ahead, marks);
     }
 
     /// What the rows were before they went on is what is behind from now on.
@@ -287,23 +288,6 @@ fn copy_of(out: Shared) -> Rows
 {
     let Shared { table, room, .. } = out;
     table.copied_into(room)
-}
-
-// The rows that are shown are handed out no more, and become those of `ahead`.
-fn replace<R: Threads + Sync>(
-    rt: &R,
-    depth: u32,
-    own: &mut Rows,
-    out: &mut Option<Shared>,
-    ahead: &Rows,
-    marks: &[bool],
-)
-    requires { DifferWhere marks.now (shown_of own.old out.old) ahead.now }
-    ensures own { own.new ≡ ahead.now }
-    ensures out { out.new ≡ None }
-{
-    part(own, out);
-    take_over(rt, depth, own, ahead, marks);
 }
 
 // A row that changes is stale.

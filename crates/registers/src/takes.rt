@@ -24,20 +24,23 @@ fn take_block(ahead: &Rows, from: usize, marks: &[bool], cells: &mut [u8])
     }
 }
 
+// Rows of a table from a place on, with a mark for each that is to be taken over.
+#[derive(Clone, Copy)]
+struct Source<'a> {
+    ahead: &'a Rows,
+    marks: &'a [bool],
+    from: usize,
+}
+
 // Does what `take_block` does, by halves of halves, each in a thread of its own where one can be made.
 #[cycle(halves)]
-fn take_halves<R: Threads + Sync>(
-    rt: &R,
-    ahead: &Rows,
-    depth: u32,
-    from: usize,
-    marks: &[bool],
-    cells: &mut [u8],
-)
-    requires { CanTakeBlock ahead.now marks.now from cells.old }
-    ensures { AreThoseFrom ahead.now from
-        (pieces ahead.now.width (length marks.now) cells.new) (length marks.now) }
+fn take_halves<R: Threads + Sync>(rt: &R, depth: u32, source: Source<'_>, cells: &mut [u8])
+    requires { CanTakeBlock source.ahead.now source.marks.now source.from cells.old }
+    ensures { AreThoseFrom source.entry.ahead.now source.entry.from
+        (pieces source.entry.ahead.now.width (length source.entry.marks.now) cells.new)
+        (length source.entry.marks.now) }
 {
+    let Source { ahead, marks, from } = source;
     if depth == 0 {
         take_block(ahead, from, marks, cells);
         return;
@@ -46,51 +49,51 @@ fn take_halves<R: Threads + Sync>(
     let mid = marks.len() / 2;
     let (first, last) = marks.split_at(mid);
     let (front, back) = cells.split_at_mut(mid * ahead.width());
-    take_both(
-        rt,
+    let first = Source {
         ahead,
-        depth - 1,
+        marks: first,
         from,
-        first,
-        front,
-        from + mid,
-        last,
-        back,
-    );
+    };
+    let last = Source {
+        ahead,
+        marks: last,
+        from: from + mid,
+    };
+    take_both(rt, depth - 1, (first, last), front, back);
 }
 
 // Two blocks side by side. Its own conditions are what its closures ask for.
 #[cycle(halves)]
 fn take_both<R: Threads + Sync>(
     rt: &R,
-    ahead: &Rows,
     depth: u32,
-    from: usize,
-    first: &[bool],
+    sources: (Source<'_>, Source<'_>),
     front: &mut [u8],
-    up: usize,
-    last: &[bool],
     back: &mut [u8],
 )
-    requires front { CanTakeBlock ahead.now first.now from front.old }
-    requires back { CanTakeBlock ahead.now last.now up back.old }
-    ensures front { AreThoseFrom ahead.now from
-        (pieces ahead.now.width (length first.now) front.new) (length first.now) }
-    ensures back { AreThoseFrom ahead.now up
-        (pieces ahead.now.width (length last.now) back.new) (length last.now) }
+    requires front { CanTakeBlock sources.0.ahead.now sources.0.marks.now sources.0.from front.old }
+    requires back { CanTakeBlock sources.1.ahead.now sources.1.marks.now sources.1.from back.old }
+    ensures front { AreThoseFrom sources.entry.0.ahead.now sources.entry.0.from
+        (pieces sources.entry.0.ahead.now.width (length sources.entry.0.marks.now) front.new)
+        (length sources.entry.0.marks.now) }
+    ensures back { AreThoseFrom sources.entry.1.ahead.now sources.entry.1.from
+        (pieces sources.entry.1.ahead.now.width (length sources.entry.1.marks.now) back.new)
+        (length sources.entry.1.marks.now) }
 {
+    let (first, last) = sources;
     let mut left = ||
-        requires { IsSync R.row × CanTakeBlock ahead.now first.now from front.now }
-        ensures { AreThoseFrom ahead.entry.now from
-            (pieces ahead.entry.now.width (length first.entry.now) front.exit.now)
-            (length first.entry.now) }
-    { take_halves(rt, ahead, depth, from, first, front) };
+        requires { IsSync R.row
+            × CanTakeBlock first.ahead.now first.marks.now first.from front.now }
+        ensures { AreThoseFrom first.entry.ahead.now first.entry.from
+            (pieces first.entry.ahead.now.width (length first.entry.marks.now) front.exit.now)
+            (length first.entry.marks.now) }
+    { take_halves(rt, depth, first, front) };
     let mut right = ||
-        requires { IsSync R.row × CanTakeBlock ahead.now last.now up back.now }
-        ensures { AreThoseFrom ahead.entry.now up
-            (pieces ahead.entry.now.width (length last.entry.now) back.exit.now)
-            (length last.entry.now) }
-    { take_halves(rt, ahead, depth, up, last, back) };
+        requires { IsSync R.row × CanTakeBlock last.ahead.now last.marks.now last.from back.now }
+        ensures { AreThoseFrom last.entry.ahead.now last.entry.from
+            (pieces last.entry.ahead.now.width (length last.entry.marks.now) back.exit.now)
+            (length last.entry.marks.now) }
+    { take_halves(rt, depth, last, back) };
     join_mut(rt, &mut left, &mut right);
 }
 
@@ -107,5 +110,10 @@ pub fn take_over<R: Threads + Sync>(
     requires { DifferWhere marks.now rows.old ahead.now }
     ensures { rows.new ≡ ahead.now }
 {
-    take_halves(rt, ahead, depth, 0, marks, rows.cells_mut());
+    let source = Source {
+        ahead,
+        marks,
+        from: 0,
+    };
+    take_halves(rt, depth, source, rows.cells_mut());
 }

@@ -8,9 +8,9 @@ use Rattle.registers.proofs.Crossing.{rows_send, rows_sync}
 use Rattle.batches.proofs.Crossing.{batch_send, batch_sync}
 use Rattle.edgelist.proofs.Crossing.{part_send, part_sync}
 use Rattle.figures.proofs.Crossing.{estimator_send, estimator_sync, tally_send, tally_sync}
-use Rattle.replica.specs.contracts.Progress as progress
-use Rattle.replica.specs.contracts.Replica as replica
-use Rattle.replica.specs.contracts.Snapshot as snapshot
+use Rattle.replica.specs.contracts.progress.Progress as progress
+use Rattle.replica.specs.contracts.replica.Replica as replica
+use Rattle.replica.specs.contracts.replica.Snapshot as snapshot
 use Rattle.replica.specs.contracts.tables.Tables as tables
 use Rattle.replica.specs.contracts.tallies.Tallies as tallies
 use Rattle.replica.specs.contracts.targets.Targets as targets

@@ -18,7 +18,7 @@ use Rattle.replica.proofs.HeardLemmas.{own_stands}
 use Rattle.replica.specs.Heard.{SpreadsOwn, StayTouched}
 use Rattle.registers.specs.Lending.{with_cells}
 use Rattle.registers.specs.Relay.{room_for}
-use Rattle.replica.specs.Pull.{raised_over, rows_at, told_rows, is_told, pulled_row, ArePulled, CanPullOwn, PullsBlock, PullsRows}
+use Rattle.replica.specs.Pull.{raised_over, rows_at, told_rows, is_told, pulled_row, ArePulled, CanPullBlock, CanPullOwn, PullsBlock, PullsRows}
 
 -- ---- a row, raised by others
 -- by two others, in either order
@@ -178,6 +178,23 @@ pulls_both part own marks from m old more new last before other after rest count
                 (back.touched (k - m) (omega (arith, length-append old more, lt, count, above)))
           ];
     }
+
+pub first_can_pull : (part : PartValue) (own : Table) (marks : List Bool) (from : ℕ) (cells front : List ℕ) (touched first last : List Bool) →
+    CanPullBlock part own marks from cells touched → touched ≡ first ++ last → length front ≡ length first * own.width → CanPullBlock part own marks from front first
+first_can_pull part own marks from cells front touched first last can split filled =
+    let size : length touched ≡ length first + length last = ap length split ∙ length-append first last in
+    record { can = can.can; inside = omega (arith, can.inside, size); filled = filled }
+
+pub last_can_pull : (part : PartValue) (own : Table) (marks : List Bool) (from up : ℕ) (cells front back : List ℕ) (touched first last : List Bool) →
+    CanPullBlock part own marks from cells touched → cells ≡ front ++ back → touched ≡ first ++ last → length front ≡ length first * own.width → up ≡ from + length first → CanPullBlock part own marks up back last
+last_can_pull part own marks from up cells front back touched first last can cut split filled next =
+    let w = own.width in
+    let m = length first in
+    let n = length last in
+    let size : length touched ≡ m + n = ap length split ∙ length-append first last in
+    let total : length cells ≡ length front + length back = ap length cut ∙ length-append front back in
+    let both : length touched * w ≡ m * w + n * w = ap (λ k. k * w) size ∙ omega arith in
+    record { can = can.can; inside = omega (arith, can.inside, size, next); filled = omega (arith, total, can.filled, both, filled) }
 
 pub halves_pulled : (part : PartValue) (own : Table) (marks : List Bool) (from up : ℕ) (cells front back left right : List ℕ) (touched first last before after : List Bool) →
     cells ≡ front ++ back → touched ≡ first ++ last → up ≡ from + length first → length front ≡ length first * own.width → length left ≡ length front → length before ≡ length first →

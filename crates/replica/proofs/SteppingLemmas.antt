@@ -13,6 +13,30 @@ use Rattle.replica.proofs.LevelLemmas.Weight.{weights_are, weights_count}
 in_last : {X : Type 0} (xs ys zs : List X) (m k : ℕ) (d : X) → xs ≡ ys ++ zs → length ys ≡ m → get_or xs (m + k) d ≡ get_or zs k d
 in_last xs ys zs m k d all long = ap (λ l. get_or l (m + k) d) all ∙ ap (λ j. get_or (ys ++ zs) (j + k) d) (sym long) ∙ get_or-append-add ys zs k d
 
+in_first : {X : Type 0} (xs ys zs : List X) (k : ℕ) (d : X) → xs ≡ ys ++ zs → k < length ys → get_or xs k d ≡ get_or ys k d
+in_first xs ys zs k d all lt = ap (λ l. get_or l k d) all ∙ get_or_append_left ys zs d k lt
+
+pub first_can_step : (m : Measure) (t : ℕ) (old new : Table) (from : ℕ) (marks first last : List Bool) (own front back : List ℕ) (tallies low high : List TallyValue) → CanStepBlock m t old new from marks own tallies →
+    marks ≡ first ++ last → own ≡ front ++ back → tallies ≡ low ++ high → length front ≡ length first → length low ≡ length first → CanStepBlock m t old new from first front low
+first_can_step m t old new from marks first last own front back tallies low high can split weights figures wide long =
+    let size : length marks ≡ length first + length last = ap length split ∙ length-append first last in
+    let inside : (k : ℕ) → k < length first → k < length marks = λ k lt. omega (arith, size, lt) in
+    record {
+      low = can.low;
+      high = can.high;
+      rows = can.rows;
+      ahead = can.ahead;
+      count = can.count;
+      inside = omega (arith, can.inside, size);
+      each = wide;
+      all = long;
+      weights = λ k lt. sym (in_first own front back k 0 weights (omega (arith, wide, lt))) ∙ can.weights k (inside k lt);
+      grown = λ k lt. rw (sym (in_first tallies low high k no_figures figures (omega (arith, long, lt)))) (can.grown k (inside k lt));
+      same = λ k lt off. can.same k (inside k lt) (in_first marks first last k false split lt ∙ off);
+      lasts = λ k lt off.
+          ap (λ (v : TallyValue). v.last) (sym (in_first tallies low high k no_figures figures (omega (arith, long, lt)))) ∙ can.lasts k (inside k lt) (in_first marks first last k false split lt ∙ off);
+    }
+
 pub last_can_step : (m : Measure) (t : ℕ) (old new : Table) (from up : ℕ) (marks first last : List Bool) (own front back : List ℕ) (tallies low high : List TallyValue) → CanStepBlock m t old new from marks own tallies →
     marks ≡ first ++ last → own ≡ front ++ back → tallies ≡ low ++ high → length front ≡ length first → length low ≡ length first → up ≡ from + length first → CanStepBlock m t old new up last back high
 last_can_step m t old new from up marks first last own front back tallies low high can split weights figures wide long next =

@@ -2,7 +2,7 @@
 use Rattle.std.proofs.Common.{◌≡◌, ℕ, ◌+◌, ◌^◌, ◌<◌, ◌≤◌, ◌++◌, ◌∷◌, List, [], length, refl, ap, ap₂, sym, ◌∙◌, subst, arith, inl}
 use Rattle.replica.proofs.Names.{Option, arc_value, sum_by, BatchValue, TallyValue, Measure, PlanValue, measure_of, State, is_heard, Table}
 use Rattle.ball_model.specs.declared.names.Verdict.TheVariants as verdict
-use Rattle.replica.specs.declared.Progress.TheInside as progress
+use Rattle.replica.specs.declared.progress.Progress.TheInside as progress
 use Rattle.replica.specs.Ahead.{IsTable}
 use Rattle.replica.specs.Change.{Advances}
 use Rattle.replica.specs.Hearing.{CanHear, HearingValue, HearsEarly}

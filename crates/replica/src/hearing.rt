@@ -13,8 +13,7 @@ ghost use Rattle.replica.specs.Tables.{CanHearOwn, HearsOwn};
 use crate::early::{Early, LEVELS};
 use crate::level;
 use crate::pull::hear_rows;
-use crate::shown::copy_rows;
-use crate::spread::{spread_batch, spread_own};
+use crate::spread::{Own, spread_batch, spread_own};
 use crate::tables::Tables;
 use crate::targets::Targets;
 use ball_model::Plan;
@@ -169,14 +168,13 @@ impl Hearing {
         requires { CanHearOwn part.now targets.now tables.now self.old }
         ensures { HearsOwn part.now targets.now tables.now self.old self.new }
     {
-        spread_own(
-            targets,
-            part,
-            tables.rows(),
-            tables.marks(),
-            &mut self.accumulated,
-            &mut self.touched,
-        );
+        let own = Own {
+            targets: &*targets,
+            part: &*part,
+            rows: tables.rows(),
+            marks: tables.marks(),
+        };
+        spread_own(&own, &mut self.accumulated, &mut self.touched);
     }
 
     /// The own rows that changed are heard as [`Hearing::hear_own`] hears them, in several threads where that takes less
@@ -193,16 +191,13 @@ impl Hearing {
         requires can { CanHearOwn part.now targets.now tables.now self.old }
         ensures { HearsOwn part.now targets.now tables.now self.old self.new }
     {
-        hear_rows(
-            rt,
-            threads,
-            targets,
-            part,
-            tables.rows(),
-            tables.marks(),
-            &mut self.accumulated,
-            &mut self.touched,
-        );
+        let own = Own {
+            targets: &*targets,
+            part: &*part,
+            rows: tables.rows(),
+            marks: tables.marks(),
+        };
+        hear_rows(rt, threads, &own, &mut self.accumulated, &mut self.touched);
     }
 
     /// Begins the next superstep, where what is accumulated has become the rows: those are marked that this has changed,
@@ -309,4 +304,13 @@ pub fn differences(alloc: Global, rows: &Rows, accumulated: &Rows) -> Result<Vec
     let mut touched = vec![in alloc; false; rows.len()]?;
     level::mark_differences(rows, accumulated, &mut touched);
     Ok(touched)
+}
+
+// The same rows in a buffer of their own.
+pub(crate) fn copy_rows(alloc: Global, rows: &Rows) -> Result<Rows, AllocError>
+    ensures { IfOk result (λ copy. copy ≡ rows.now) }
+{
+    let mut copy = Rows::fixed(alloc, rows.len() as u32, rows.width() as u16)?;
+    copy.copy_from(rows);
+    Ok(copy)
 }

@@ -11,6 +11,24 @@ ghost use Rattle.replica.specs.Tables.{IsStepped, rows_before};
 use figures::{Estimator, Tally, moved_weight};
 use registers::{Behind, Relay, Rows, next_marked};
 
+/// The superstep that is closed, and how estimates are made.
+#[derive(Clone, Copy, Drop)]
+pub struct Closing<'a> {
+    pub estimator: &'a Estimator,
+    pub t: u32,
+}
+
+/// How figures come to superstep `t`: the rows ahead, from which the rows differ where they are marked, how estimates are
+/// made, and in how many threads it is done, as a power of 2, where it is done in several.
+#[derive(Clone, Copy, Drop)]
+pub struct Step<'a> {
+    pub estimator: &'a Estimator,
+    pub t: u32,
+    pub ahead: &'a Rows,
+    pub marks: &'a [bool],
+    pub depth: u32,
+}
+
 /// Marks the rows that differ.
 pub fn mark_differences(old: &Rows, new: &Rows, marks: &mut [bool])
     requires { AreAsMany old.now new.now (length marks.old) }
@@ -30,55 +48,48 @@ pub fn clear_marks(marks: &mut [bool])
     }
 }
 
-/// The figures at superstep `t` of the rows ahead, from which the rows differ where they are marked; the answer is what
-/// the sum of the last estimates has gained. Weights are carried forward, figures of rows that did not change stay as they
-/// are, and the rows become those ahead.
+/// The figures of the rows ahead; the answer is what the sum of the last estimates has gained. Weights are carried forward,
+/// figures of rows that did not change stay as they are, and the rows become those ahead.
 pub fn step_rows(
-    estimator: &Estimator,
-    t: u32,
+    step: &Step<'_>,
     rows: &mut Relay,
-    ahead: &Rows,
-    marks: &[bool],
     weights: &mut [u64],
     tallies: &mut [Tally],
 ) -> u128
-    requires { CanBeStepped estimator.now t rows.old ahead.now marks.now weights.old
-        (map value_of tallies.old) }
-    ensures { AreStepped estimator.now t ahead.now (map value_of tallies.old)
-        (map value_of tallies.new) weights.new result rows.new }
+    requires { CanBeStepped step.now.estimator.now step.now.t rows.old step.now.ahead.now
+        step.now.marks.now weights.old (map value_of tallies.old) }
+    ensures { AreStepped step.now.estimator.now step.now.t step.now.ahead.now
+        (map value_of tallies.old) (map value_of tallies.new) weights.new result rows.new }
 {
-    let before = rows.go_on(ahead, marks);
-    let gain = step_marked(estimator, t, &before, rows, ahead, marks, weights, tallies);
+    let before = rows.go_on(step.ahead, step.marks);
+    let gain = step_marked(step, &before, rows, weights, tallies);
     rows.leave_behind(before);
     gain
 }
 
-// The same, where the rows before were handed out, or else are those that are shown. Each row is taken over right behind
+// The same, where the rows before were handed out, or else are those that are shown. Each row is taken over right after
 // its figures: a second walk would have to fetch both again.
 #[inline(never)]
 fn step_marked(
-    estimator: &Estimator,
-    t: u32,
+    step: &Step<'_>,
     before: &Option<Behind>,
     rows: &mut Relay,
-    ahead: &Rows,
-    marks: &[bool],
     weights: &mut [u64],
     tallies: &mut [Tally],
 ) -> u128
-    requires { CanStepMarked estimator.now t rows.old before.now ahead.now marks.now
-        weights.old (map value_of tallies.old) }
-    ensures { AreStepped estimator.now t ahead.now (map value_of tallies.old)
-        (map value_of tallies.new) weights.new result rows.new }
+    requires { CanStepMarked step.now.estimator.now step.now.t rows.old before.now
+        step.now.ahead.now step.now.marks.now weights.old (map value_of tallies.old) }
+    ensures { AreStepped step.now.estimator.now step.now.t step.now.ahead.now
+        (map value_of tallies.old) (map value_of tallies.new) weights.new result rows.new }
 {
     let mut gain = 0;
-    let mut i = next_marked(marks, 0);
+    let mut i = next_marked(step.marks, 0);
     while i < tallies.len() {
-        let (row, next) = (row_before(before, rows, i), ahead.row(i));
+        let (row, next) = (row_before(before, rows, i), step.ahead.row(i));
         let (weight, tally) = (&mut weights[i], &mut tallies[i]);
-        gain += step_tally(estimator, t, row, next, weight, tally);
+        gain += step_tally(step, row, next, weight, tally);
         rows.put(i, next);
-        i = next_marked(marks, i + 1);
+        i = next_marked(step.marks, i + 1);
     }
     gain
 }
@@ -95,23 +106,23 @@ fn row_before<'a>(before: &'a Option<Behind>, rows: &'a Relay, i: usize) -> &'a 
     }
 }
 
-/// The figures at superstep `t` of a row that has become the one ahead; the answer is what its estimate has gained.
+/// The figures of a row that has become the one ahead; the answer is what its estimate has gained.
 #[inline(always)]
 pub fn step_tally(
-    estimator: &Estimator,
-    t: u32,
+    step: &Step<'_>,
     row: &[u8],
     ahead: &[u8],
     weight: &mut u64,
     tally: &mut Tally,
 ) -> u128
-    requires { CanStepRow estimator.now t row.now ahead.now weight.old tally.old.last }
-    ensures { IsStepped estimator.now t ahead.now (value_of tally.old) (value_of tally.new)
-        weight.new result }
+    requires { CanStepRow step.now.estimator.now step.now.t row.now ahead.now weight.old
+        tally.old.last }
+    ensures { IsStepped step.now.estimator.now step.now.t ahead.now (value_of tally.old)
+        (value_of tally.new) weight.new result }
 {
     let before = tally.last;
-    *weight = moved_weight(estimator.log2m(), *weight, row, ahead);
-    tally.step(t, estimator.estimate_of(*weight));
+    *weight = moved_weight(step.estimator.log2m(), *weight, row, ahead);
+    tally.step(step.t, step.estimator.estimate_of(*weight));
     u128::from(tally.last - before)
 }
 

@@ -39,126 +39,31 @@
 //! [`Replica::close_by`] that of its threads.
 #![tactic(auto)]
 
-mod calls;
 mod early;
 mod hearing;
-mod join;
 pub mod laws;
 mod level;
-mod merge;
-mod out;
+mod progress;
 mod pull;
-mod rebuild;
+mod replica;
 pub mod saved;
 mod shown;
 mod spread;
 mod start;
-mod step;
-mod step_by;
 mod stepping;
 mod tables;
 mod tallies;
 mod targets;
 mod told;
 mod waiting;
-mod weights;
 
-use early::Early;
 pub use early::LEVELS;
-use edgelist::Part;
-use figures::Estimator;
-use hearing::Hearing;
-pub use out::ChangedRows;
+pub use progress::Progress;
+pub use replica::out::ChangedRows;
+pub use replica::{Replica, Snapshot};
 pub use saved::Saved;
 pub use shown::Shown;
-use std::marker::Model;
-use std::sync::Arc;
-use tables::Tables;
 pub use targets::Targets;
 
 #[cfg(test)]
 mod tests;
-
-/// What a replica or a snapshot has at a superstep. What it tells are the calls of [`Shown`].
-///
-/// Where a replica has it there is room to go on: for a sum of each superstep up to the limit, and for an accumulator
-/// of each row until the run is over. A snapshot has no more than it tells.
-pub struct Progress {
-    part: Arc<Part>,
-    superstep: u32,
-    tables: Tables,
-    hearing: Hearing,
-    early: Early,
-}
-
-impl Model for Progress {
-    ghost use Rattle.replica.specs.Progress.{ProgressValue};
-
-    ghost Value = { ProgressValue };
-
-    ghost use Rattle.replica.specs.Seen.{progress_of, IsProgress};
-
-    ghost view = { progress_of };
-
-    ghost invariant = { IsProgress };
-}
-
-// Written out, and so one call wherever one is let go: the checker reads a derived one again at each place.
-impl Drop for Progress {
-    fn drop(self) {
-        let Progress {
-            part: _,
-            superstep: _,
-            tables: _,
-            hearing: _,
-            early: _,
-        } = self;
-    }
-}
-
-/// What a replica has at a superstep, without the room that later supersteps take.
-///
-/// Another replica of the partition, one that was lost, restarted or late, takes it over by [`Replica::merge`]. Rows,
-/// figures, batches and the part are shared with the replica that it is of, the rest is a copy: what the replica does
-/// afterwards changes nothing here.
-#[derive(Drop)]
-pub struct Snapshot {
-    progress: Progress,
-}
-
-impl Model for Snapshot {
-    ghost use Rattle.ball_model.specs.State.{State};
-
-    ghost Value = { State };
-
-    ghost view = { λ s. s.progress.state };
-}
-
-/// One partition's state at a superstep, and the batches that it holds.
-///
-/// Its memory is taken when it is made: two rows of 2^log2m bytes, a tally and the weight that its estimate is made of
-/// for each vertex, a slot for each source and each of three supersteps, and a sum for each superstep up to the limit;
-/// and that of [`Targets`], where the index was not made before. Where the run is over, [`Replica::give_back`] gives back
-/// that of the index, and one of the two rows if they are equal.
-#[derive(Drop)]
-pub struct Replica {
-    // what it has at its superstep: what it tells, and what a snapshot copies, with room to go on
-    progress: Progress,
-    targets: Targets,
-    // how estimates are made
-    estimator: Estimator,
-    // the weight of each row, which its estimate is made of
-    weights: Vec<u64>,
-}
-
-impl Model for Replica {
-    ghost use Rattle.ball_model.specs.State.{State};
-
-    ghost Value = { State };
-
-    ghost use Rattle.replica.specs.Seen.{IsReplica};
-
-    ghost view = { λ r. r.progress.state };
-
-    ghost invariant = { IsReplica };
-}

@@ -12,8 +12,7 @@ ghost use Rattle.replica.specs.Pull.{CanPullBlock, CanPullOwn, CanPullRow, Pulls
 ghost use Rattle.replica.specs.Pull.{CanHearRows, CanRaiseBy, PullsRow, RaisesBy};
 ghost use Rattle.replica.specs.Pull.{is_told, raised_over, rows_at};
 
-use crate::spread::spread_own;
-use crate::targets::Targets;
+use crate::spread::{Own, spread_own};
 use edgelist::Part;
 use registers::{LINE, Rows, glance_over, max_into, next_marked};
 use std::thread::{Threads, available_parallelism, join_mut};
@@ -126,20 +125,24 @@ fn pull_row(part: &Part, rows: &Rows, marks: &[bool], i: u32, row: &mut [u8]) ->
     raised | raise_by(rows, &waiting[..count], row)
 }
 
+// The own rows, a mark for each, and the part that they are of: they are pulled by blocks that are halved so often.
+#[derive(Clone, Copy, Drop)]
+struct Pull<'a> {
+    part: &'a Part,
+    rows: &'a Rows,
+    marks: &'a [bool],
+    depth: u32,
+}
+
 // The k-th of the rows from own vertex `from` on is pulled; the answer is whether it changed.
-fn pull_piece(
-    part: &Part,
-    rows: &Rows,
-    marks: &[bool],
-    from: usize,
-    k: usize,
-    cells: &mut [u8],
-) -> bool
-    requires within { k * rows.now.width + rows.now.width ≤ length cells.old }
-    requires can { CanPullRow part.now rows.now marks.now (from + k)
-        (piece_at rows.now.width k cells.old) }
-    ensures { PullsPiece part.now rows.now marks.now from k cells.old cells.new result }
+fn pull_piece(pull: &Pull<'_>, from: usize, k: usize, cells: &mut [u8]) -> bool
+    requires within { k * pull.now.rows.now.width + pull.now.rows.now.width ≤ length cells.old }
+    requires can { CanPullRow pull.now.part.now pull.now.rows.now pull.now.marks.now (from + k)
+        (piece_at pull.now.rows.now.width k cells.old) }
+    ensures { PullsPiece pull.now.part.now pull.now.rows.now pull.now.marks.now from k
+        cells.old cells.new result }
 {
+    let (part, rows, marks) = (pull.part, pull.rows, pull.marks);
     let _size = part.size();
     let width = rows.width();
     let start = k * width;
@@ -148,20 +151,14 @@ fn pull_piece(
 }
 
 // Rows from own vertex `from` on are pulled, one after the other, and each that this changes is marked.
-fn pull_block(
-    part: &Part,
-    rows: &Rows,
-    marks: &[bool],
-    from: usize,
-    cells: &mut [u8],
-    touched: &mut [bool],
-)
-    requires { CanPullBlock part.now rows.now marks.now from cells.old touched.old }
-    ensures { PullsBlock part.now rows.now marks.now from cells.old cells.new
-        touched.old touched.new }
+fn pull_block(pull: &Pull<'_>, from: usize, cells: &mut [u8], touched: &mut [bool])
+    requires { CanPullBlock pull.now.part.now pull.now.rows.now pull.now.marks.now from
+        cells.old touched.old }
+    ensures { PullsBlock pull.now.part.now pull.now.rows.now pull.now.marks.now from
+        cells.old cells.new touched.old touched.new }
 {
     for k in 0..touched.len() {
-        let raised = pull_piece(part, rows, marks, from, k, cells);
+        let raised = pull_piece(pull, from, k, cells);
         touched[k] |= raised;
     }
 }
@@ -179,72 +176,61 @@ fn middle(part: &Part, from: usize, count: usize) -> usize
 #[cycle(halves)]
 fn pull_halves<R: Threads + Sync>(
     rt: &R,
-    part: &Part,
-    rows: &Rows,
-    marks: &[bool],
-    depth: u32,
+    pull: &Pull<'_>,
     from: usize,
     cells: &mut [u8],
     touched: &mut [bool],
 )
-    requires { CanPullBlock part.now rows.now marks.now from cells.old touched.old }
-    ensures { PullsBlock part.now rows.now marks.now from cells.old cells.new
-        touched.old touched.new }
+    requires { CanPullBlock pull.now.part.now pull.now.rows.now pull.now.marks.now from
+        cells.old touched.old }
+    ensures { PullsBlock pull.now.part.now pull.now.rows.now pull.now.marks.now from
+        cells.old cells.new touched.old touched.new }
 {
-    if depth == 0 {
-        pull_block(part, rows, marks, from, cells, touched);
-        return;
+    if pull.depth == 0 {
+        pull_block(pull, from, cells, touched);
+    } else {
+        let half = Pull {
+            part: pull.part,
+            rows: pull.rows,
+            marks: pull.marks,
+            depth: pull.depth - 1,
+        };
+        pull_both(rt, &half, from, cells, touched);
     }
-    let mid = middle(part, from, touched.len());
-    let (front, back) = cells.split_at_mut(mid * rows.width());
-    let (first, last) = touched.split_at_mut(mid);
-    pull_both(
-        rt,
-        part,
-        rows,
-        marks,
-        depth - 1,
-        from,
-        front,
-        first,
-        from + mid,
-        back,
-        last,
-    );
 }
 
-// Two blocks side by side. Its own conditions are what its closures ask for.
+// The two halves, side by side.
 #[cycle(halves)]
 fn pull_both<R: Threads + Sync>(
     rt: &R,
-    part: &Part,
-    rows: &Rows,
-    marks: &[bool],
-    depth: u32,
+    half: &Pull<'_>,
     from: usize,
-    front: &mut [u8],
-    first: &mut [bool],
-    up: usize,
-    back: &mut [u8],
-    last: &mut [bool],
+    cells: &mut [u8],
+    touched: &mut [bool],
 )
-    requires front { CanPullBlock part.now rows.now marks.now from front.old first.old }
-    requires back { CanPullBlock part.now rows.now marks.now up back.old last.old }
-    ensures front { PullsBlock part.now rows.now marks.now from front.old front.new
-        first.old first.new }
-    ensures back { PullsBlock part.now rows.now marks.now up back.old back.new
-        last.old last.new }
+    requires { CanPullBlock half.now.part.now half.now.rows.now half.now.marks.now from
+        cells.old touched.old }
+    ensures { PullsBlock half.now.part.now half.now.rows.now half.now.marks.now from
+        cells.old cells.new touched.old touched.new }
 {
+    let mid = middle(half.part, from, touched.len());
+    let up = from + mid;
+    let (front, back) = cells.split_at_mut(mid * half.rows.width());
+    let (first, last) = touched.split_at_mut(mid);
     let mut left = ||
-        requires { IsSync R.row × CanPullBlock part.now rows.now marks.now from front.now first.now }
-        ensures { PullsBlock part.entry.now rows.entry.now marks.entry.now from
-            front.entry.now front.exit.now first.entry.now first.exit.now }
-    { pull_halves(rt, part, rows, marks, depth, from, front, first) };
+        requires { IsSync R.row × CanPullBlock half.now.part.now half.now.rows.now
+            half.now.marks.now from front.now first.now }
+        ensures { PullsBlock half.entry.now.part.now half.entry.now.rows.now
+            half.entry.now.marks.now from front.entry.now front.exit.now first.entry.now
+            first.exit.now }
+    { pull_halves(rt, half, from, front, first) };
     let mut right = ||
-        requires { IsSync R.row × CanPullBlock part.now rows.now marks.now up back.now last.now }
-        ensures { PullsBlock part.entry.now rows.entry.now marks.entry.now up
-            back.entry.now back.exit.now last.entry.now last.exit.now }
-    { pull_halves(rt, part, rows, marks, depth, up, back, last) };
+        requires { IsSync R.row × CanPullBlock half.now.part.now half.now.rows.now
+            half.now.marks.now up back.now last.now }
+        ensures { PullsBlock half.entry.now.part.now half.entry.now.rows.now
+            half.entry.now.marks.now up back.entry.now back.exit.now last.entry.now
+            last.exit.now }
+    { pull_halves(rt, half, up, back, last) };
     join_mut(rt, &mut left, &mut right);
 }
 
@@ -256,27 +242,23 @@ fn pull_both<R: Threads + Sync>(
 pub fn pull_own<R: Threads + Sync>(
     rt: &R,
     depth: u32,
-    part: &Part,
-    rows: &Rows,
-    marks: &[bool],
+    own: &Own<'_>,
     accumulated: &mut Rows,
     touched: &mut [bool],
 )
-    requires { CanPullOwn part.now rows.now marks.now accumulated.old touched.old }
-    ensures { SpreadsOwn (targets_of part.now) part.now rows.now.rows marks.now
-        accumulated.old accumulated.new touched.old touched.new }
+    requires { CanPullOwn own.now.part.now own.now.rows.now own.now.marks.now
+        accumulated.old touched.old }
+    ensures { SpreadsOwn (targets_of own.now.part.now) own.now.part.now own.now.rows.now.rows
+        own.now.marks.now accumulated.old accumulated.new touched.old touched.new }
 {
-    let _limits = part.partition();
-    pull_halves(
-        rt,
-        part,
-        rows,
-        marks,
+    let _limits = own.part.partition();
+    let pull = Pull {
+        part: own.part,
+        rows: own.rows,
+        marks: own.marks,
         depth,
-        0,
-        accumulated.cells_mut(),
-        touched,
-    );
+    };
+    pull_halves(rt, &pull, 0, accumulated.cells_mut(), touched);
 }
 
 // How often rows are halved for so many threads: there are no more blocks than threads. Where all processors are to work
@@ -345,28 +327,20 @@ pub fn halvings_for<R: Threads>(rt: &R, threads: usize, width: usize, marks: &[b
 pub fn hear_rows<R: Threads + Sync>(
     rt: &R,
     threads: usize,
-    targets: &Targets,
-    part: &Part,
-    rows: &Rows,
-    marks: &[bool],
+    own: &Own<'_>,
     accumulated: &mut Rows,
     touched: &mut [bool],
 )
-    requires { CanHearRows targets.now part.now rows.now marks.now accumulated.old touched.old }
-    ensures { SpreadsOwn targets.now part.now rows.now.rows marks.now
-        accumulated.old accumulated.new touched.old touched.new }
+    requires { CanHearRows own.now.targets.now own.now.part.now own.now.rows.now
+        own.now.marks.now accumulated.old touched.old }
+    ensures { SpreadsOwn own.now.targets.now own.now.part.now own.now.rows.now.rows
+        own.now.marks.now accumulated.old accumulated.new touched.old touched.new }
 {
-    if are_many(threads, part.plan().parts(), rows.width(), marks) {
-        pull_own(
-            rt,
-            halvings(rt, threads, rows.width(), marks),
-            part,
-            rows,
-            marks,
-            accumulated,
-            touched,
-        );
+    let (parts, width) = (own.part.plan().parts(), own.rows.width());
+    if are_many(threads, parts, width, own.marks) {
+        let depth = halvings(rt, threads, width, own.marks);
+        pull_own(rt, depth, own, accumulated, touched);
     } else {
-        spread_own(targets, part, rows, marks, accumulated, touched);
+        spread_own(own, accumulated, touched);
     }
 }

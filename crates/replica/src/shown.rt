@@ -17,19 +17,16 @@ ghost use Rattle.ball_model.specs.State.{State, StandsFor, content_of, rows_of};
 ghost use Rattle.ball_model.specs.State.{tallies_of, sums_of};
 ghost use Rattle.ball_model.specs.Checkpoint.{no_figures, kept_batches};
 ghost use Rattle.replica.specs.Ahead.{early_names, true_early};
-ghost use Rattle.replica.specs.Level.{found_verdict, is_changing, level_verdict, missing_in};
+ghost use Rattle.replica.specs.Level.{found_verdict, missing_in};
 ghost use Rattle.replica.specs.Hearing.{accumulated_by, change_by, heard_by};
 ghost use Rattle.replica.specs.Saved.{IsFigures};
-ghost use Rattle.replica.specs.Seen.{IsPlaceOf, IsState, OwnsVertex};
+ghost use Rattle.replica.specs.Seen.{IsState};
 
-use crate::{Progress, Replica, Snapshot, level};
-use ball_model::plan::MOST_PARTS;
+use crate::{Progress, level};
 use ball_model::{BatchName, Plan, Verdict};
 use batches::Batch;
 use figures::Tally;
 use registers::{Rows, SourceMask};
-use std::alloc::{AllocError, Global};
-use std::sync::Arc;
 
 /// What a replica and a snapshot of it tell of what they have. No call takes memory.
 pub trait Shown {
@@ -281,111 +278,4 @@ pub trait Shown {
             None => Some(self.shown().level_verdict()),
         }
     }
-}
-
-impl Shown for Progress {
-    ghost state = { λ k. k.state };
-
-    fn shown(&self) -> &Progress {
-        self
-    }
-}
-
-impl Shown for Snapshot {
-    ghost state = { λ v. v };
-
-    fn shown(&self) -> &Progress {
-        &self.progress
-    }
-}
-
-impl Shown for Replica {
-    ghost state = { λ v. v };
-
-    fn shown(&self) -> &Progress {
-        &self.progress
-    }
-}
-
-impl Progress {
-    // The place of a vertex of the partition.
-    #[tactic(auto, using(crate::proofs::SeenLemmas::Read::place_in))]
-    fn own_place(&self, x: u32) -> usize
-        requires { OwnsVertex self.now.state x }
-        ensures { IsPlaceOf self.now.state x result }
-    {
-        (x / u32::from(self.part.plan().parts())) as usize
-    }
-
-    /// Whether the batch of a superstep and a source is held.
-    pub(crate) fn holds_from(&self, superstep: u32, source: u16) -> bool
-        ensures { result ≡ (content_of self.now.state).holds superstep source }
-    {
-        if superstep < self.superstep {
-            return false;
-        }
-        if superstep == self.superstep {
-            return source < MOST_PARTS && self.hearing.heard().has(source);
-        }
-        let level = (superstep - self.superstep - 1) as usize;
-        self.early.get(level, source).is_some()
-    }
-
-    /// The accumulators, a row each: the rows themselves where no others are kept.
-    pub(crate) fn accumulators(&self) -> &Rows
-        ensures { result.now ≡ record {
-          width = 2 ^ self.now.state.part.plan.log2m;
-          rows = self.now.state.accumulated;
-        } }
-    {
-        self.hearing.accumulators(self.tables.rows())
-    }
-
-    // Whether a vertex of the own partition or of one that is heard is changed.
-    fn is_changing(&self) -> bool
-        ensures { result ≡ is_changing self.now.state }
-    {
-        self.hearing.change() || level::any_marked(self.tables.marks())
-    }
-
-    // The verdict of a level that is held.
-    pub(crate) fn level_verdict(&self) -> Verdict
-        ensures { result ≡ level_verdict self.now.state }
-    {
-        if 1 <= self.superstep && !self.is_changing() {
-            return Verdict::Stable;
-        }
-        if self.superstep == self.part.plan().limit() {
-            Verdict::Limit
-        } else {
-            Verdict::GoOn
-        }
-    }
-
-    /// The same, copied: without room for later sums, and without accumulators where each equals its row.
-    pub(crate) fn copied(&mut self, alloc: Global) -> Result<Progress, AllocError>
-        ensures same { self.new ≡ self.old }
-        ensures copy { IfOk result (λ s. s.state ≡ self.old.state) }
-    {
-        let part = Arc::try_clone(&self.part)?;
-        let early = self.early.share(alloc)?;
-        let hearing = self.hearing.copied(alloc)?;
-        let tables = self.tables.copied(alloc)?;
-        Ok(Progress {
-            part,
-            superstep: self.superstep,
-            tables,
-            hearing,
-            early,
-        })
-    }
-}
-
-// The same rows in a buffer of their own.
-pub(crate) fn copy_rows(alloc: Global, rows: &Rows) -> Result<Rows, AllocError>
-    ensures { IfOk result (λ copy. copy ≡ rows.now) }
-{
-    let mut copy = Rows::fixed(alloc, rows.len() as u32, rows.width() as u16)?;
-    copy.copy_from(rows);
-    Ok(copy)
 }

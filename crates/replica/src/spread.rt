@@ -13,6 +13,15 @@ use registers::{LINE, Rows, next_marked};
 // How many rows are glanced at before the first of them is raised.
 const BLOCK: usize = 8;
 
+/// The own rows, a mark for each, the part that they are of, and the index that says where they lead.
+#[derive(Clone, Copy, Drop)]
+pub struct Own<'a> {
+    pub targets: &'a Targets,
+    pub part: &'a Part,
+    pub rows: &'a Rows,
+    pub marks: &'a [bool],
+}
+
 /// Spreads the row of vertex `z`: the accumulator of each own vertex that `z` has an edge to becomes the maximum of
 /// itself and `registers`, register by register, and each accumulator that this changes is marked.
 ///
@@ -61,50 +70,40 @@ pub fn spread_batch(targets: &Targets, batch: &Batch, accumulated: &mut Rows, to
 /// Where the rows are the counters at t and the marks say which of them are changed there, the accumulators of what
 /// was heard become those of what was heard and the own vertices. It takes no memory, and time in proportion to the
 /// edges of the marked ones into the part; marks are passed over 64 at once where none is set.
-pub fn spread_own(
-    targets: &Targets,
-    part: &Part,
-    rows: &Rows,
-    marks: &[bool],
-    accumulated: &mut Rows,
-    touched: &mut [bool],
-)
-    requires { CanSpreadOwn targets.now part.now rows.now marks.now accumulated.old touched.old }
-    ensures { SpreadsOwn targets.now part.now rows.now.rows marks.now
-        accumulated.old accumulated.new touched.old touched.new }
+pub fn spread_own(own: &Own<'_>, accumulated: &mut Rows, touched: &mut [bool])
+    requires { CanSpreadOwn own.now.targets.now own.now.part.now own.now.rows.now
+        own.now.marks.now accumulated.old touched.old }
+    ensures { SpreadsOwn own.now.targets.now own.now.part.now own.now.rows.now.rows
+        own.now.marks.now accumulated.old accumulated.new touched.old touched.new }
 {
-    if rows.width() <= LINE {
-        spread_in_turn(targets, part, rows, marks, accumulated, touched);
+    // Where rows lead to fewer than two accumulators each, there is little to fetch side by side.
+    let few = own.part.edges() / 2 < own.part.size() as usize;
+    if few || own.rows.width() <= LINE {
+        spread_in_turn(own, accumulated, touched);
     } else {
-        spread_waiting(targets, part, rows, marks, accumulated, touched);
+        spread_waiting(own, accumulated, touched);
     }
 }
 
 // The same, one row after the other.
 #[inline(never)]
-fn spread_in_turn(
-    targets: &Targets,
-    part: &Part,
-    rows: &Rows,
-    marks: &[bool],
-    accumulated: &mut Rows,
-    touched: &mut [bool],
-)
-    requires { CanSpreadOwn targets.now part.now rows.now marks.now accumulated.old touched.old }
-    ensures { SpreadsOwn targets.now part.now rows.now.rows marks.now
-        accumulated.old accumulated.new touched.old touched.new }
+fn spread_in_turn(own: &Own<'_>, accumulated: &mut Rows, touched: &mut [bool])
+    requires { CanSpreadOwn own.now.targets.now own.now.part.now own.now.rows.now
+        own.now.marks.now accumulated.old touched.old }
+    ensures { SpreadsOwn own.now.targets.now own.now.part.now own.now.rows.now.rows
+        own.now.marks.now accumulated.old accumulated.new touched.old touched.new }
 {
-    let size = part.size() as usize;
-    let mut i = next_marked(marks, 0);
+    let size = own.part.size() as usize;
+    let mut i = next_marked(own.marks, 0);
     while i < size {
         spread_row(
-            targets,
-            part.vertex(i as u32),
-            rows.row(i),
+            own.targets,
+            own.part.vertex(i as u32),
+            own.rows.row(i),
             accumulated,
             touched,
         );
-        i = next_marked(marks, i + 1);
+        i = next_marked(own.marks, i + 1);
     }
 }
 

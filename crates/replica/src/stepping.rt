@@ -6,28 +6,43 @@ ghost use Rattle.figures.specs.Values.{value_of};
 ghost use Rattle.replica.specs.Stepping.{CanStepBlock, StepsBlock};
 ghost use Rattle.replica.specs.Tables.{AreStepped, CanBeStepped, rows_before};
 
-use crate::level::{step_rows, step_tally};
-use figures::{Estimator, Tally};
+use crate::level::{Step, step_rows, step_tally};
+use figures::Tally;
 use registers::{Behind, Relay, Rows, next_marked};
 use std::thread::{Threads, join_mut};
+
+// A step, with the rows as they were, which is done by blocks that are halved so often.
+#[derive(Clone, Copy, Drop)]
+struct Blocks<'a> {
+    step: &'a Step<'a>,
+    old: &'a Rows,
+    depth: u32,
+}
+
+// Rows from place `from` on, with a mark for each.
+#[derive(Clone, Copy, Drop)]
+struct Span<'a> {
+    from: usize,
+    marks: &'a [bool],
+}
 
 // The figures and weights of the rows from place `from` on, one after the other; the answer is what the sum of the last
 // estimates has gained.
 fn step_block(
-    estimator: &Estimator,
-    t: u32,
-    old: &Rows,
-    ahead: &Rows,
-    from: usize,
-    marks: &[bool],
+    blocks: &Blocks<'_>,
+    span: &Span<'_>,
     weights: &mut [u64],
     tallies: &mut [Tally],
 ) -> u128
-    requires { CanStepBlock estimator.now t old.now ahead.now from marks.now
+    requires { CanStepBlock blocks.now.step.now.estimator.now blocks.now.step.now.t
+        blocks.now.old.now blocks.now.step.now.ahead.now span.now.from span.now.marks.now
         weights.old (map value_of tallies.old) }
-    ensures { StepsBlock estimator.now t ahead.now from (map value_of tallies.old)
+    ensures { StepsBlock blocks.now.step.now.estimator.now blocks.now.step.now.t
+        blocks.now.step.now.ahead.now span.now.from (map value_of tallies.old)
         (map value_of tallies.new) weights.new result }
 {
+    let (step, old, from, marks) = (blocks.step, blocks.old, span.from, span.marks);
+    let ahead = step.ahead;
     // the limits of a table are told with its length
     let _limits = ahead.len();
     let mut gain = 0;
@@ -35,7 +50,7 @@ fn step_block(
     while k < marks.len() {
         let (row, next) = (old.row(from + k), ahead.row(from + k));
         let (weight, tally) = (&mut weights[k], &mut tallies[k]);
-        gain += step_tally(estimator, t, row, next, weight, tally);
+        gain += step_tally(step, row, next, weight, tally);
         k = next_marked(marks, k + 1);
     }
     gain
@@ -45,89 +60,78 @@ fn step_block(
 #[cycle(halves)]
 fn step_halves<R: Threads + Sync>(
     rt: &R,
-    estimator: &Estimator,
-    t: u32,
-    old: &Rows,
-    ahead: &Rows,
-    depth: u32,
-    from: usize,
-    marks: &[bool],
+    blocks: &Blocks<'_>,
+    span: &Span<'_>,
     weights: &mut [u64],
     tallies: &mut [Tally],
 ) -> u128
-    requires { CanStepBlock estimator.now t old.now ahead.now from marks.now
+    requires { CanStepBlock blocks.now.step.now.estimator.now blocks.now.step.now.t
+        blocks.now.old.now blocks.now.step.now.ahead.now span.now.from span.now.marks.now
         weights.old (map value_of tallies.old) }
-    ensures { StepsBlock estimator.now t ahead.now from (map value_of tallies.old)
+    ensures { StepsBlock blocks.now.step.now.estimator.now blocks.now.step.now.t
+        blocks.now.step.now.ahead.now span.now.from (map value_of tallies.old)
         (map value_of tallies.new) weights.new result }
 {
-    if depth == 0 {
-        return step_block(estimator, t, old, ahead, from, marks, weights, tallies);
+    if blocks.depth == 0 {
+        step_block(blocks, span, weights, tallies)
+    } else {
+        let half = Blocks {
+            step: blocks.step,
+            old: blocks.old,
+            depth: blocks.depth - 1,
+        };
+        step_both(rt, &half, span, weights, tallies)
     }
-    // the limits of a table are told with its length
-    let _limits = ahead.len();
-    let mid = marks.len() / 2;
-    let (first, last) = marks.split_at(mid);
-    let (front, back) = weights.split_at_mut(mid);
-    let (low, high) = tallies.split_at_mut(mid);
-    let (one, two) = step_both(
-        rt,
-        estimator,
-        t,
-        old,
-        ahead,
-        depth - 1,
-        from,
-        first,
-        front,
-        low,
-        from + mid,
-        last,
-        back,
-        high,
-    );
-    one + two
 }
 
-// Two blocks side by side. Its own conditions are what its closures ask for.
+// The two halves, side by side.
 #[cycle(halves)]
 fn step_both<R: Threads + Sync>(
     rt: &R,
-    estimator: &Estimator,
-    t: u32,
-    old: &Rows,
-    ahead: &Rows,
-    depth: u32,
-    from: usize,
-    first: &[bool],
-    front: &mut [u64],
-    low: &mut [Tally],
-    up: usize,
-    last: &[bool],
-    back: &mut [u64],
-    high: &mut [Tally],
-) -> (u128, u128)
-    requires front { CanStepBlock estimator.now t old.now ahead.now from first.now
-        front.old (map value_of low.old) }
-    requires back { CanStepBlock estimator.now t old.now ahead.now up last.now
-        back.old (map value_of high.old) }
-    ensures front { StepsBlock estimator.now t ahead.now from (map value_of low.old)
-        (map value_of low.new) front.new result.0 }
-    ensures back { StepsBlock estimator.now t ahead.now up (map value_of high.old)
-        (map value_of high.new) back.new result.1 }
+    half: &Blocks<'_>,
+    span: &Span<'_>,
+    weights: &mut [u64],
+    tallies: &mut [Tally],
+) -> u128
+    requires { CanStepBlock half.now.step.now.estimator.now half.now.step.now.t
+        half.now.old.now half.now.step.now.ahead.now span.now.from span.now.marks.now
+        weights.old (map value_of tallies.old) }
+    ensures { StepsBlock half.now.step.now.estimator.now half.now.step.now.t
+        half.now.step.now.ahead.now span.now.from (map value_of tallies.old)
+        (map value_of tallies.new) weights.new result }
 {
+    // the limits of a table are told with its length
+    let _limits = half.step.ahead.len();
+    let mid = span.marks.len() / 2;
+    let (first, last) = span.marks.split_at(mid);
+    let (front, back) = weights.split_at_mut(mid);
+    let (low, high) = tallies.split_at_mut(mid);
+    let lower = Span {
+        from: span.from,
+        marks: first,
+    };
+    let upper = Span {
+        from: span.from + mid,
+        marks: last,
+    };
     let mut left = || -> u128
-        requires { IsSync R.row × CanStepBlock estimator.now t old.now ahead.now from
-            first.now front.now (map value_of low.now) }
-        ensures { StepsBlock estimator.entry.now t ahead.entry.now from
-            (map value_of low.entry.now) (map value_of low.exit.now) front.exit.now result }
-    { step_halves(rt, estimator, t, old, ahead, depth, from, first, front, low) };
+        requires { IsSync R.row × CanStepBlock half.now.step.now.estimator.now
+            half.now.step.now.t half.now.old.now half.now.step.now.ahead.now lower.from
+            lower.marks.now front.now (map value_of low.now) }
+        ensures { StepsBlock half.entry.now.step.now.estimator.now half.entry.now.step.now.t
+            half.entry.now.step.now.ahead.now lower.entry.from (map value_of low.entry.now)
+            (map value_of low.exit.now) front.exit.now result }
+    { step_halves(rt, half, &lower, front, low) };
     let mut right = || -> u128
-        requires { IsSync R.row × CanStepBlock estimator.now t old.now ahead.now up
-            last.now back.now (map value_of high.now) }
-        ensures { StepsBlock estimator.entry.now t ahead.entry.now up
-            (map value_of high.entry.now) (map value_of high.exit.now) back.exit.now result }
-    { step_halves(rt, estimator, t, old, ahead, depth, up, last, back, high) };
-    join_mut(rt, &mut left, &mut right)
+        requires { IsSync R.row × CanStepBlock half.now.step.now.estimator.now
+            half.now.step.now.t half.now.old.now half.now.step.now.ahead.now upper.from
+            upper.marks.now back.now (map value_of high.now) }
+        ensures { StepsBlock half.entry.now.step.now.estimator.now half.entry.now.step.now.t
+            half.entry.now.step.now.ahead.now upper.entry.from (map value_of high.entry.now)
+            (map value_of high.exit.now) back.exit.now result }
+    { step_halves(rt, half, &upper, back, high) };
+    let (one, two) = join_mut(rt, &mut left, &mut right);
+    one + two
 }
 
 // The rows of the superstep before: those that were handed out, or else those that are shown.
@@ -143,62 +147,50 @@ fn table_before<'a>(before: &'a Option<Behind>, rows: &'a Relay) -> &'a Rows
 // The figures by blocks, and then the rows by blocks: those that changed are read twice.
 fn step_blocks<R: Threads + Sync>(
     rt: &R,
-    depth: u32,
-    estimator: &Estimator,
-    t: u32,
+    step: &Step<'_>,
     rows: &mut Relay,
-    ahead: &Rows,
-    marks: &[bool],
     weights: &mut [u64],
     tallies: &mut [Tally],
 ) -> u128
-    requires { CanBeStepped estimator.now t rows.old ahead.now marks.now weights.old
-        (map value_of tallies.old) }
-    ensures { AreStepped estimator.now t ahead.now (map value_of tallies.old)
-        (map value_of tallies.new) weights.new result rows.new }
+    requires { CanBeStepped step.now.estimator.now step.now.t rows.old step.now.ahead.now
+        step.now.marks.now weights.old (map value_of tallies.old) }
+    ensures { AreStepped step.now.estimator.now step.now.t step.now.ahead.now
+        (map value_of tallies.old) (map value_of tallies.new) weights.new result rows.new }
 {
-    let before = rows.go_on(ahead, marks);
-    let gain = step_halves(
-        rt,
-        estimator,
-        t,
-        table_before(&before, rows),
-        ahead,
-        depth,
-        0,
-        marks,
-        weights,
-        tallies,
-    );
-    rows.put_marked(rt, depth, ahead, marks);
+    let before = rows.go_on(step.ahead, step.marks);
+    let blocks = Blocks {
+        step: &*step,
+        old: table_before(&before, rows),
+        depth: step.depth,
+    };
+    let span = Span {
+        from: 0,
+        marks: step.marks,
+    };
+    let gain = step_halves(rt, &blocks, &span, weights, tallies);
+    rows.put_marked(rt, step.depth, step.ahead, step.marks);
     rows.leave_behind(before);
     gain
 }
 
-/// The figures at superstep `t` of the rows ahead, as [`step_rows`] steps them, in 2^depth threads.
+/// The figures of the rows ahead, as [`step_rows`] steps them, in several threads.
 ///
 /// It takes no memory but that of the threads, and time as the marks and the marked rows, over the processors.
 pub fn step_rows_by<R: Threads + Sync>(
     rt: &R,
-    depth: u32,
-    estimator: &Estimator,
-    t: u32,
+    step: &Step<'_>,
     rows: &mut Relay,
-    ahead: &Rows,
-    marks: &[bool],
     weights: &mut [u64],
     tallies: &mut [Tally],
 ) -> u128
-    requires { CanBeStepped estimator.now t rows.old ahead.now marks.now weights.old
-        (map value_of tallies.old) }
-    ensures { AreStepped estimator.now t ahead.now (map value_of tallies.old)
-        (map value_of tallies.new) weights.new result rows.new }
+    requires { CanBeStepped step.now.estimator.now step.now.t rows.old step.now.ahead.now
+        step.now.marks.now weights.old (map value_of tallies.old) }
+    ensures { AreStepped step.now.estimator.now step.now.t step.now.ahead.now
+        (map value_of tallies.old) (map value_of tallies.new) weights.new result rows.new }
 {
-    if depth == 0 {
-        step_rows(estimator, t, rows, ahead, marks, weights, tallies)
+    if step.depth == 0 {
+        step_rows(step, rows, weights, tallies)
     } else {
-        step_blocks(
-            rt, depth, estimator, t, rows, ahead, marks, weights, tallies,
-        )
+        step_blocks(rt, step, rows, weights, tallies)
     }
 }

@@ -7,6 +7,7 @@ ghost use Rattle.figures.specs.Values.{value_of};
 ghost use Rattle.replica.specs.Tables.{AreFirst, AreRefilled, CanStep, HasRoomFor, NextTables};
 
 use crate::hearing::Hearing;
+use crate::level::{Closing, Step};
 use crate::pull::halvings_for;
 use crate::tallies::Tallies;
 use crate::{level, start};
@@ -116,23 +117,24 @@ impl Tables {
         self.sums.capacity()
     }
 
-    /// Goes on from superstep `t`: what is accumulated of it becomes the rows, the figures and the sums follow, and
-    /// nothing is heard yet. Weights are carried forward.
-    pub fn next(
-        &mut self,
-        estimator: &Estimator,
-        t: u32,
-        hearing: &mut Hearing,
-        weights: &mut [u64],
-    )
-        requires { CanStep estimator.now t self.old hearing.old weights.old }
-        ensures { NextTables estimator.now t self.old self.new hearing.old hearing.new weights.new }
+    /// Goes on from the superstep that is closed: what is accumulated of it becomes the rows, the figures and the sums
+    /// follow, and nothing is heard yet. Weights are carried forward.
+    pub fn next(&mut self, closing: &Closing<'_>, hearing: &mut Hearing, weights: &mut [u64])
+        requires { CanStep closing.now.estimator.now closing.now.t self.old hearing.old
+            weights.old }
+        ensures { NextTables closing.now.estimator.now closing.now.t self.old self.new
+            hearing.old hearing.new weights.new }
     {
-        let last = self.sums[t as usize];
+        let last = self.sums[closing.t as usize];
         let (ahead, marks) = (hearing.ahead(), hearing.touched());
-        let gain = self
-            .tallies
-            .step(estimator, t + 1, &mut self.rows, ahead, marks, weights);
+        let step = Step {
+            estimator: closing.estimator,
+            t: closing.t + 1,
+            ahead,
+            marks,
+            depth: 0,
+        };
+        let gain = self.tallies.step(&step, &mut self.rows, weights);
         self.sums.push_reserved(last + gain);
         hearing.begin(&mut self.marks);
     }
@@ -142,27 +144,25 @@ impl Tables {
         &mut self,
         rt: &R,
         threads: usize,
-        estimator: &Estimator,
-        t: u32,
+        closing: &Closing<'_>,
         hearing: &mut Hearing,
         weights: &mut [u64],
     )
-        requires { CanStep estimator.now t self.old hearing.old weights.old }
-        ensures { NextTables estimator.now t self.old self.new hearing.old hearing.new weights.new }
+        requires { CanStep closing.now.estimator.now closing.now.t self.old hearing.old
+            weights.old }
+        ensures { NextTables closing.now.estimator.now closing.now.t self.old self.new
+            hearing.old hearing.new weights.new }
     {
-        let last = self.sums[t as usize];
+        let last = self.sums[closing.t as usize];
         let (ahead, marks) = (hearing.ahead(), hearing.touched());
-        let depth = halvings_for(rt, threads, ahead.width(), marks);
-        let gain = self.tallies.step_by(
-            rt,
-            depth,
-            estimator,
-            t + 1,
-            &mut self.rows,
+        let step = Step {
+            estimator: closing.estimator,
+            t: closing.t + 1,
             ahead,
             marks,
-            weights,
-        );
+            depth: halvings_for(rt, threads, ahead.width(), marks),
+        };
+        let gain = self.tallies.step_by(rt, &step, &mut self.rows, weights);
         let sum = last + gain;
         self.sums.push_reserved(sum);
         hearing.begin(&mut self.marks);

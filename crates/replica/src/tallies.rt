@@ -8,10 +8,10 @@ ghost use Rattle.replica.specs.Tables.{AreStepped, CanBeStepped};
 ghost use Rattle.replica.specs.Tallies.{AreEither, AreOwnAgain, AreRelayed, CanBeRelayed, DifferAt};
 ghost use Rattle.replica.specs.Tallies.{shown_tallies};
 
-use crate::level;
+use crate::level::{self, Step};
 use crate::stepping::step_rows_by;
-use figures::{Estimator, Tally};
-use registers::{Relay, Rows, next_marked};
+use figures::Tally;
+use registers::{Relay, next_marked};
 use std::alloc::{AllocError, Global};
 use std::marker::Model;
 use std::mem;
@@ -119,42 +119,38 @@ impl Tallies {
         }
     }
 
-    /// They become the figures at superstep `t` of the rows ahead, and the rows become these, as [`level::step_rows`] steps
-    /// them. It takes no memory. Where a table was handed out, those that changed since the one before it are copied too,
+    /// They become the figures of the rows ahead, and the rows become these, as [`level::step_rows`] steps them. It takes no
+    /// memory. Where a table was handed out, those that changed since the one before it are copied too,
     /// and all of them where somebody still holds that one.
-    pub fn step(
-        &mut self,
-        estimator: &Estimator,
-        t: u32,
-        rows: &mut Relay,
-        ahead: &Rows,
-        marks: &[bool],
-        weights: &mut [u64],
-    ) -> u128
-        requires { CanBeStepped estimator.now t rows.old ahead.now marks.now weights.old self.old }
-        ensures { AreStepped estimator.now t ahead.now self.old self.new weights.new result
-            rows.new }
+    pub fn step(&mut self, step: &Step<'_>, rows: &mut Relay, weights: &mut [u64]) -> u128
+        requires { CanBeStepped step.now.estimator.now step.now.t rows.old step.now.ahead.now
+            step.now.marks.now weights.old self.old }
+        ensures { AreStepped step.now.estimator.now step.now.t step.now.ahead.now self.old
+            self.new weights.new result rows.new }
     {
         let out = self.out.take();
-        go_on(&mut self.own, out, &mut self.behind, &mut self.spare, marks);
-        level::step_rows(estimator, t, rows, ahead, marks, weights, &mut self.own)
+        go_on(
+            &mut self.own,
+            out,
+            &mut self.behind,
+            &mut self.spare,
+            step.marks,
+        );
+        level::step_rows(step, rows, weights, &mut self.own)
     }
 
-    /// They go on as [`Tallies::step`] does, in 2^depth threads.
+    /// They go on as [`Tallies::step`] does, in several threads.
     pub fn step_by<R: Threads + Sync>(
         &mut self,
         rt: &R,
-        depth: u32,
-        estimator: &Estimator,
-        t: u32,
+        step: &Step<'_>,
         rows: &mut Relay,
-        ahead: &Rows,
-        marks: &[bool],
         weights: &mut [u64],
     ) -> u128
-        requires { CanBeStepped estimator.now t rows.old ahead.now marks.now weights.old self.old }
-        ensures { AreStepped estimator.now t ahead.now self.old self.new weights.new result
-            rows.new }
+        requires { CanBeStepped step.now.estimator.now step.now.t rows.old step.now.ahead.now
+            step.now.marks.now weights.old self.old }
+        ensures { AreStepped step.now.estimator.now step.now.t step.now.ahead.now self.old
+            self.new weights.new result rows.new }
     {
         let shown = self.out.take();
         go_on(
@@ -162,19 +158,9 @@ impl Tallies {
             shown,
             &mut self.behind,
             &mut self.spare,
-            marks,
+            step.marks,
         );
-        step_rows_by(
-            rt,
-            depth,
-            estimator,
-            t,
-            rows,
-            ahead,
-            marks,
-            weights,
-            &mut self.own,
-        )
+        step_rows_by(rt, step, rows, weights, &mut self.own)
     }
 
     /// They become others, as many. It takes no memory.

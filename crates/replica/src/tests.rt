@@ -29,6 +29,7 @@ use figures::Tally;
 use registers::{Join, Rows, SourceMask, reconcile};
 use std::alloc::AllocError;
 use std::hash::RandomState;
+use std::sync::Arc;
 
 const ROW_A: [u8; 16] = [0, 0, 0, 0, 0, 0, 0, 0, 0, 0, 0, 0, 0, 0, 3, 0];
 

@@ -8,13 +8,19 @@ ghost use Rattle.replica.specs.Spread.{CanSpreadOwn};
 ghost use Rattle.replica.specs.Waiting.{AddsEdges, CanAddEdges, CanRaiseAlong, MarksBeforeAlong};
 ghost use Rattle.replica.specs.Waiting.{RaisesAlong, RaisesWaiting};
 
-use crate::targets::Targets;
+use crate::spread::Own;
 use arrayvec::ArrayVec;
-use edgelist::Part;
 use registers::{Rows, next_marked};
 
 // How many edges wait before the rows that they lead to are raised.
 const WAITING: usize = 16;
+
+// Own row `i`, and the places that it leads to.
+#[derive(Clone, Copy, Drop)]
+struct Edges<'a> {
+    i: u32,
+    places: &'a [u32],
+}
 
 // Marks the accumulators that are seen at a glance to rise along one of the edges.
 fn mark_seen_along(rows: &Rows, edges: &[(u32, u32)], accumulated: &Rows, touched: &mut [bool])
@@ -59,65 +65,62 @@ fn raise_waiting(
     waiting.clear();
 }
 
-// One edge more waits, from own row `i` to a place; as soon as no other one has room, the accumulators are raised.
+// One edge more waits, from an own row to a place; as soon as no other one has room, the accumulators are raised.
 fn add_edge(
     rows: &Rows,
-    i: u32,
-    place: u32,
+    edge: (u32, u32),
     waiting: &mut ArrayVec<(u32, u32), WAITING>,
     accumulated: &mut Rows,
     touched: &mut [bool],
 )
-    requires { CanAddEdges rows.now i (place ∷ []) waiting.old.items accumulated.old touched.old }
-    ensures { AddsEdges rows.now i (place ∷ []) waiting.old.items waiting.new.items
+    requires { CanAddEdges rows.now edge.0 (edge.1 ∷ []) waiting.old.items
+        accumulated.old touched.old }
+    ensures { AddsEdges rows.now edge.0 (edge.1 ∷ []) waiting.old.items waiting.new.items
         accumulated.old accumulated.new touched.old touched.new }
 {
-    waiting.push((i, place));
+    waiting.push(edge);
     if waiting.is_full() {
         raise_waiting(rows, waiting, accumulated, touched);
     }
 }
 
-// The edges from own row `i` to these places wait too.
+// The edges of own row `i` wait too.
 fn add_edges(
     rows: &Rows,
-    i: u32,
-    places: &[u32],
+    edges: &Edges<'_>,
     waiting: &mut ArrayVec<(u32, u32), WAITING>,
     accumulated: &mut Rows,
     touched: &mut [bool],
 )
-    requires { CanAddEdges rows.now i places.now waiting.old.items accumulated.old touched.old }
-    ensures { AddsEdges rows.now i places.now waiting.old.items waiting.new.items
-        accumulated.old accumulated.new touched.old touched.new }
+    requires { CanAddEdges rows.now edges.now.i edges.now.places.now waiting.old.items
+        accumulated.old touched.old }
+    ensures { AddsEdges rows.now edges.now.i edges.now.places.now waiting.old.items
+        waiting.new.items accumulated.old accumulated.new touched.old touched.new }
 {
-    for place in places {
-        add_edge(rows, i, *place, waiting, accumulated, touched);
+    for place in edges.places {
+        add_edge(rows, (edges.i, *place), waiting, accumulated, touched);
     }
 }
 
 /// Spreads the own rows that are marked, as [`crate::spread::spread_own`] does, where rows are wider than a line of the
 /// cache: those that edges of several rows lead to are fetched side by side.
 #[inline(never)]
-pub fn spread_waiting(
-    targets: &Targets,
-    part: &Part,
-    rows: &Rows,
-    marks: &[bool],
-    accumulated: &mut Rows,
-    touched: &mut [bool],
-)
-    requires { CanSpreadOwn targets.now part.now rows.now marks.now accumulated.old touched.old }
-    ensures { SpreadsOwn targets.now part.now rows.now.rows marks.now
-        accumulated.old accumulated.new touched.old touched.new }
+pub fn spread_waiting(own: &Own<'_>, accumulated: &mut Rows, touched: &mut [bool])
+    requires { CanSpreadOwn own.now.targets.now own.now.part.now own.now.rows.now
+        own.now.marks.now accumulated.old touched.old }
+    ensures { SpreadsOwn own.now.targets.now own.now.part.now own.now.rows.now.rows
+        own.now.marks.now accumulated.old accumulated.new touched.old touched.new }
 {
-    let size = part.size() as usize;
+    let size = own.part.size() as usize;
     let mut waiting = ArrayVec::new();
-    let mut i = next_marked(marks, 0);
+    let mut i = next_marked(own.marks, 0);
     while i < size {
-        let places = targets.places(part.vertex(i as u32));
-        add_edges(rows, i as u32, places, &mut waiting, accumulated, touched);
-        i = next_marked(marks, i + 1);
+        let edges = Edges {
+            i: i as u32,
+            places: own.targets.places(own.part.vertex(i as u32)),
+        };
+        add_edges(own.rows, &edges, &mut waiting, accumulated, touched);
+        i = next_marked(own.marks, i + 1);
     }
-    raise_waiting(rows, &mut waiting, accumulated, touched);
+    raise_waiting(own.rows, &mut waiting, accumulated, touched);
 }

@@ -1,5 +1,5 @@
 -- What a run's refusals say, step by step.
-use Rattle.std.proofs.Common.{◌≡◌, ◌≢◌, ◌∙◌, ℕ, List, ap, nat_lt, refl, subst, sym}
+use Rattle.std.proofs.Common.{◌≡◌, ◌≢◌, ◌∙◌, ℕ, List, ap, false, nat_lt, refl, subst, sym}
 use Rattle.std.specs.Prelude.{Option, None, Some, Result, Ok, Err, IfOk, IfErr, IsOk, OnOk, ◌||◌}
 use Rattle.std.specs.Io.KnownBytes.{Appends}
 use Rattle.std.specs.Borrow.{Bor}
@@ -25,8 +25,8 @@ use Rattle.workers.specs.declared.runs.RunError.{RunError}
 use Rattle.workers.specs.declared.runs.RunError.TheVariants as fault
 use Rattle.ball_model.specs.Job.{job_of}
 use Rattle.workers.specs.Job.{IsFirstFault}
-use Rattle.workers.specs.Options.{run_job}
-use Rattle.workers.specs.Run.{AddsReport, AnswersNetwork, HasFirstFault, IsFaultIn, IsRunFault, IsRunRefusal, RefusesEdges, RefusesNetwork, WherePlain, job_fault, network_fault}
+use Rattle.workers.specs.Options.{are_in_limits, run_job}
+use Rattle.workers.specs.Run.{AddsReport, AnswersNetwork, HasFirstFault, IsFaultIn, IsRunFault, IsRunRefusal, RefusesEdges, RefusesNetwork, TellsNone, TellsReport, WherePlain, job_fault, network_fault}
 
 -- what holds of plain bytes, and what follows from it
 pub where_weaker : (o : RunOptions) (told : Option (List ℕ)) (counted : Option (Bor (List ℕ))) (P Q : Settings → List ℕ → Option (List ℕ) → Type 0) → ((input : List ℕ) → P (settings_of (run_job o)) input (list_in counted) → Q (settings_of (run_job o)) input (list_in counted)) → WherePlain o told counted P → WherePlain o told counted Q
@@ -103,15 +103,6 @@ refuses_network s input list network fault.BookFull read h = record { network = 
 refuses_network s input list network fault.Memory read h = record { network = network; read = read; planned = h }
 refuses_network s input list network (fault.Starved node r q) read h = record { network = network; read = read; planned = h }
 refuses_network s input list network fault.Write read h = absurd h
-
--- the report of a network that was read, or why there is none
-pub reported : (s : Settings) (input : List ℕ) (list : Option (List ℕ)) (network : Network) (r : Result (List ℕ) RunError) → AnswersNetwork s.numbers network r → AreRead s input list network → IfOk r (IsReport s input list)
-reported s input list network (Ok text) h read = record { network = network; read = read; report = h }
-reported s input list network (Err e) h read = tt
-
-pub refused : (s : Settings) (input : List ℕ) (list : Option (List ℕ)) (network : Network) (r : Result (List ℕ) RunError) → AnswersNetwork s.numbers network r → AreRead s input list network → IfErr r (IsRunRefusal s input list)
-refused s input list network (Ok text) h read = tt
-refused s input list network (Err e) h read = refuses_network s input list network e read h
 
 -- whatever is refused over a network that was read, there was one
 later_edge : (s : Settings) (n : Numbers) (input : List ℕ) (network : Network) (e : RunError) → RefusesNetwork n network e → IsOk (network_in s input) → RefusesEdges s input e
@@ -204,10 +195,6 @@ same_error e d is = cc
 none_told : (e : RunError) (f : JobError) → told_fault e ≡ job.Memory → f ≢ job.Memory → e ≡ job_fault f → ⊥
 none_told e f none other is = other (sym (told_back f) ∙ (ap told_fault (sym is) ∙ none))
 
-pub options_first : {T : Type 0} (W : JobError → Type 0) (f : JobError) → f ≢ job.Memory → ◌≡◌ {A = Result T RunError} (Err fault.Options) (Err (job_fault f)) → W f
-unfolding told_fault
-options_first W f other is = absurd (none_told fault.Options f refl other (same_error fault.Options (job_fault f) is))
-
 pub plan_first : {T : Type 0} (W : JobError → Type 0) (x : PlanError) (f : JobError) → f ≢ job.Memory → ◌≡◌ {A = Result T RunError} (Err (fault.Plan x)) (Err (job_fault f)) → W f
 unfolding told_fault
 plan_first W x f other is = absurd (none_told (fault.Plan x) f refl other (same_error (fault.Plan x) (job_fault f) is))
@@ -237,11 +224,56 @@ unfolding told_fault
 unread_told (unread.Edges e) = refl
 unread_told (unread.Counted e) = refl
 
-pub read_first : {T : Type 0} (W : JobError → Type 0) (e : NetworkError) (f : JobError) → f ≢ job.Memory → ◌≡◌ {A = Result T RunError} (Err (network_fault e)) (Err (job_fault f)) → W f
-read_first W e f other is = absurd (none_told (network_fault e) f (unread_told e) other (same_error (network_fault e) (job_fault f) is))
-
 pub network_first : (o : RunOptions) (told : Option (List ℕ)) (counted : Option (Bor (List ℕ))) (network : Network) (f : JobError) → WherePlain o told counted (λ s input list. AreRead s input list network) → HasFirstFault o network f →
     WherePlain o told counted (λ s input list. IsRunFault o s input list f)
 network_first o told counted network f read first =
     where_weaker o told counted (λ s input list. AreRead s input list network) (λ s input list. IsRunFault o s input list f)
     (λ input h. record { network = network; read = h; first = first }) read
+
+-- ---- what a run tells
+-- the options are out of their limits
+pub outside_told : (o : RunOptions) (told : Option (List ℕ)) (counted : Option (Bor (List ℕ))) → are_in_limits o ≡ false → TellsNone o told counted fault.Options
+unfolding told_fault
+outside_told o told counted outside = record {
+  input = where_always o told counted (λ s input list. IsRunRefusal s input list fault.Options) (λ s input list. tt);
+  edges = λ input is plain. tt;
+  options = outside;
+  unwritten = λ is. absurd (cc);
+  first = λ f other is. absurd (none_told fault.Options f refl other is);
+}
+
+-- the network is not read
+pub unread_by : (o : RunOptions) (asked : JobOptions) (told : Option (List ℕ)) (counted : Option (Bor (List ℕ))) (e : NetworkError) → asked ≡ run_job o → edges.WherePlain told counted (λ input list. edges.RefusesRead (settings_of asked) input list e) → ForPlain told (λ input. edges.RefusesEdges (settings_of asked) input e) → TellsNone o told counted (network_fault e)
+unread_by o asked told counted e is refuses of_edges = record {
+  input =
+      where_weaker o told counted (λ s input list. edges.RefusesRead s input list e) (λ s input list. IsRunRefusal s input list (network_fault e))
+      (λ input h. refuses_read (settings_of (run_job o)) input (list_in counted) e h)
+      (where_job o asked told counted (λ s input list. edges.RefusesRead s input list e) is refuses);
+  edges = λ input known plain. refuses_edges (settings_of (run_job o)) input e (plain_job o asked told (λ s input. edges.RefusesEdges s input e) is of_edges input known plain);
+  options = no_fault o e;
+  unwritten = never_written e;
+  first = λ f other same. absurd (none_told (network_fault e) f (unread_told e) other same);
+}
+
+-- the network is read, and answered
+pub told_report : (o : RunOptions) (told : Option (List ℕ)) (counted : Option (Bor (List ℕ))) (network : Network) (r : Result (List ℕ) RunError) → AnswersNetwork (numbers_of (run_job o)) network r → WherePlain o told counted (λ s input list. AreRead s input list network) → ForPlain told (λ input. IsOk (network_in (settings_of (run_job o)) input)) → IfOk r (TellsReport o told counted)
+told_report o told counted network (Err e) answer read ok = tt
+told_report o told counted network (Ok text) answer read ok = record {
+  report =
+      where_weaker o told counted (λ s input list. AreRead s input list network) (λ s input list. IsReport s input list text)
+      (λ input h. record { network = network; read = h; report = answer }) read;
+  edges = ok;
+}
+
+pub told_none : (o : RunOptions) (told : Option (List ℕ)) (counted : Option (Bor (List ℕ))) (network : Network) (r : Result (List ℕ) RunError) → AnswersNetwork (numbers_of (run_job o)) network r → IfErr r (IsFaultIn o) → ((f : JobError) → f ≢ job.Memory → r ≡ Err (job_fault f) → HasFirstFault o network f) → WherePlain o told counted (λ s input list. AreRead s input list network) →
+    ForPlain told (λ input. IsOk (network_in (settings_of (run_job o)) input)) → IfErr r (TellsNone o told counted)
+told_none o told counted network (Ok text) answer options first read ok = tt
+told_none o told counted network (Err e) answer options first read ok = record {
+  input =
+      where_weaker o told counted (λ s input list. AreRead s input list network) (λ s input list. IsRunRefusal s input list e)
+      (λ input h. refuses_network (settings_of (run_job o)) input (list_in counted) network e h answer) read;
+  edges = λ input known plain. later_edge (settings_of (run_job o)) (numbers_of (run_job o)) input network e answer (ok input known plain);
+  options = options;
+  unwritten = λ is. subst (λ (x : RunError). RefusesNetwork (numbers_of (run_job o)) network x) is answer;
+  first = λ f other is. network_first o told counted network f read (first f other (ap Err is));
+}

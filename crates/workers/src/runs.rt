@@ -5,7 +5,7 @@ ghost use Rattle.std.specs.Io.KnownBytes.{Appends, Keeps};
 ghost use Rattle.ball_model.specs.Job.{IsJob, job_of};
 ghost use Rattle.ball_model.specs.PlanValue.{mixing_of};
 ghost use Rattle.ball_model.specs.Report.{report_of};
-ghost use Rattle.ball_model.specs.RunText.{IsReport, network_in};
+ghost use Rattle.ball_model.specs.RunText.{network_in};
 ghost use Rattle.ball_model.specs.Streams.{Rises, RisesByOne};
 ghost use Rattle.edgelist.specs.Job.{numbers_of, settings_of};
 ghost use Rattle.edgelist.specs.Reading.{CountsOne};
@@ -14,7 +14,8 @@ ghost use Rattle.workers.specs.declared.ends.JobError.{JobError as NodesFault};
 ghost use Rattle.workers.specs.Job.{AreDone, AreParts, IsFaultOf, IsFirstFault};
 ghost use Rattle.workers.specs.Options.{are_in_limits, run_job};
 ghost use Rattle.workers.specs.Run.{AddsReport, AnswersNetwork, HasFirstFault, IsFaultIn};
-ghost use Rattle.workers.specs.Run.{IsRunFault, IsRunRefusal, RefusesEdges, WherePlain, job_fault};
+ghost use Rattle.workers.specs.Run.{IsRunFault, IsRunRefusal, RefusesEdges, TellsNone, TellsReport};
+ghost use Rattle.workers.specs.Run.{WherePlain, job_fault};
 
 use crate::ends::JobError;
 use crate::gate::{Gate, UnwatchedGate};
@@ -197,23 +198,14 @@ impl<'a, T: AllocGlobal + Threads + Wait + Sync, G: Gate + Watch + Sync> Watched
     ) -> Result<Pages, RunError>
         ensures limits { are_in_limits self.now.options.now ≡ false →
             result ≡ Err RunError.Options }
-        ensures ok { WherePlain self.now.options.now (R.remaining reader.old) counted.entry
-            (λ s input list. IfOk result (IsReport s input list)) }
-        ensures refused { WherePlain self.now.options.now (R.remaining reader.old) counted.entry
-            (λ s input list. IfErr result (IsRunRefusal s input list)) }
-        ensures edges { ForPlain (R.remaining reader.old) (λ input.
-            OnOk result (IsOk (network_in (settings_of (run_job self.now.options.now)) input))) }
-        ensures of_edges { ForPlain (R.remaining reader.old) (λ input.
-            IfErr result (RefusesEdges (settings_of (run_job self.now.options.now)) input)) }
-        ensures kind { IfErr result (λ e. e ≢ RunError.Write) }
+        ensures text { IfOk result (TellsReport self.now.options.now (R.remaining reader.old)
+            counted.entry) }
+        ensures none { IfErr result (TellsNone self.now.options.now (R.remaining reader.old)
+            counted.entry) }
         ensures read { result ≡ Err (RunError.Edges EdgeError.Read) →
             Rises (R.failed_calls reader.old) (R.failed_calls reader.new) }
         ensures failed { CountsOne (R.failed_calls reader.old) (R.failed_calls reader.new) →
             result ≡ Err (RunError.Edges EdgeError.Read) }
-        ensures fault { IfErr result (IsFaultIn self.now.options.now) }
-        ensures first { (f : NodesFault) → f ≢ JobError.Memory → result ≡ Err (job_fault f) →
-            WherePlain self.now.options.now (R.remaining reader.old) counted.entry
-            (λ s input list. IsRunFault self.now.options.now s input list f) }
     {
         if !self.options.are_in_limits() {
             return Err(RunError::Options);

@@ -16,10 +16,10 @@ ghost use Rattle.ball_model.specs.Job.{Job};
 ghost use Rattle.ball_model.specs.State.{StandsFor};
 ghost use Rattle.replica.specs.Level.{EndsRun, found_verdict, missing_in};
 ghost use Rattle.workers.specs.declared.superstep.SuperstepEnd.TheVariants as superstep_end;
-ghost use Rattle.workers.specs.Superstep.{DropsBefore, HasKept, HasRecalled, IsFound, IsSuperstepEnd};
+ghost use Rattle.workers.specs.Superstep.{DropsBefore, EndsSuperstep, HasKept, HasRecalled, IsFound};
 ghost use Rattle.workers.specs.Superstep.{StandsIn};
 ghost use Rattle.replica.specs.Sent.{AreChanged, batch_name};
-ghost use Rattle.workers.specs.Tie.{HasCome, HasGone, HasPath, IsPath, KeptIfTold};
+ghost use Rattle.workers.specs.Tie.{HasCome, HasGone, HasPath, IsPath};
 
 use crate::exchange::Exchange;
 use crate::gate::Gate;
@@ -382,16 +382,8 @@ impl<'a, R: AllocGlobal + Threads + Wait + Sync, G: Gate + Watch> Worker<'a, R, 
         requires caller { IsCaller (E.caller exchange.old) }
         requires stands { StandsIn (E.caller exchange.old) self.now.node.part replica.old }
         ensures seen { Extends (E.caller exchange.old) (E.caller exchange.new) }
-        ensures stands { OnOk result (StandsIn (E.caller exchange.old) self.now.node.part
-            replica.new) }
-        ensures end { IfOk result (λ end. IsSuperstepEnd (E.caller exchange.old) self.now.node.part
-            replica.new end (E.caller exchange.new)) }
-        ensures stays { IfOk result (λ end. end ≢ superstep_end.Next →
-            replica.new.superstep ≡ replica.old.superstep) }
-        ensures kept { OnOk result (KeptIfTold self.now.orders.keep (E.caller exchange.old)
-            replica.old.superstep (E.caller exchange.new)) }
-        ensures came { OnOk result (IsPath self.now.orders.keep (E.caller exchange.old)
-            self.now.node.part (holding_in replica.old) (holding_in replica.new)
+        ensures ends { IfOk result (λ end. EndsSuperstep self.now.orders.keep
+            (E.caller exchange.old) self.now.node.part replica.old replica.new end
             (E.caller exchange.new)) }
         ensures gone { OnErr result (HasPath self.now.orders.keep (E.caller exchange.old)
             self.now.node.part (holding_in replica.old) (E.caller exchange.new)) }

@@ -24,7 +24,6 @@ use std::hash::RandomState;
 use std::random::RandomSource;
 use std::sync::atomic::{AtomicU32, Ordering};
 use std::sync::{Arc, Wait};
-use std::test::Fail;
 use std::thread::Threads;
 
 const TWO_EDGES: &[u8] = b"a\tb\nb\tc\n";

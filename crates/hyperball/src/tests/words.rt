@@ -7,8 +7,8 @@ use crate::cli::run::RunWords;
 use crate::cli::{Wish, read_words};
 use crate::laws::{
     lines_of_progress, lists_of_orders, words_of_a_node, words_of_a_replay, words_of_a_run,
-    words_of_no_command, words_of_no_node, words_of_no_replay, words_of_no_run,
-    words_of_one_command, words_of_progress,
+    words_of_no_command, words_of_no_node, words_of_no_progress, words_of_no_replay,
+    words_of_no_run, words_of_one_command, words_of_progress,
 };
 use crate::whole::WholeError;
 use ball_model::{Estimate, NodeId, PlanError};
@@ -321,5 +321,6 @@ fn laws_are_called() {
     words_of_no_command();
     words_of_one_command();
     words_of_progress();
+    words_of_no_progress();
     lists_of_orders();
 }

@@ -4,7 +4,7 @@ use Rattle.replica.proofs.Names.{Option, None, Some, Ok, arc_value, BatchValue, 
 use Rattle.ball_model.specs.declared.names.Taken.TheVariants as taken
 use Rattle.ball_model.specs.declared.names.Verdict.{Verdict}
 use Rattle.ball_model.specs.declared.names.Verdict.TheVariants as verdict
-use Rattle.replica.specs.declared.Progress.TheInside as progress
+use Rattle.replica.specs.declared.progress.Progress.TheInside as progress
 use Rattle.replica.specs.Level.{is_finished, is_over}
 use Rattle.replica.specs.Hearing.{HearingValue, KeepsAll, SaysSame}
 use Rattle.replica.specs.Progress.{CanGoOn, IsWhole, ProgressValue}

@@ -2,7 +2,7 @@
 use Rattle.std.proofs.Common.{◌≡◌, ℕ, ◌+◌, ◌-◌, ◌^◌, ◌<◌, ◌≤◌, ◌||◌, List, length, refl, ap, ap₂, sym, ◌∙◌, subst, arith, inl, inr}
 use Rattle.replica.proofs.Names.{Option, arc_value, BatchValue, PlanValue, State, early_at, Table}
 use Rattle.registers.specs.Joined.{maximum_of_rows, union_of_flags}
-use Rattle.replica.specs.declared.Progress.TheInside as progress
+use Rattle.replica.specs.declared.progress.Progress.TheInside as progress
 use Rattle.replica.specs.Ahead.{IsTable, either}
 use Rattle.replica.specs.Hearing.{CanHear, Fills, HearingValue, HearsEarly, KeepsAll, Renews}
 use Rattle.replica.specs.Index.{targets_of}

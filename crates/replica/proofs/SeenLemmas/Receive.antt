@@ -2,7 +2,7 @@
 use Rattle.std.proofs.Common.{◌≡◌, ℕ, ◌+◌, ◌-◌, ◌<◌, ◌≤◌, ◌==◌, ◌&&◌, List, refl, ap, sym, ◌∙◌, subst, arith, if◌then◌else◌}
 use Rattle.replica.proofs.Names.{Option, Some, Ok, arc_value, PlanValue, BatchValue, IsBatch, take_of, State, content_of, early_at, BatchName}
 use Rattle.ball_model.specs.declared.names.Taken.TheVariants as taken
-use Rattle.replica.specs.declared.Progress.TheInside as progress
+use Rattle.replica.specs.declared.progress.Progress.TheInside as progress
 use Rattle.replica.specs.Ahead.{IsTable}
 use Rattle.replica.specs.Change.{Receives}
 use Rattle.replica.specs.Hearing.{HearingValue, HearsAlso, HearsByIndex, KeepsAll, batch_by}

@@ -1,7 +1,7 @@
 -- A replica that is made: at superstep 0, of what a checkpoint tells, or as a copy.
 use Rattle.std.proofs.Common.{◌≡◌, ℕ, ◌+◌, ◌^◌, ◌≤◌, Bool, List, length, map, refl, ap, sym, ◌∙◌, subst, arith}
 use Rattle.replica.proofs.Names.{None, arc_value, kept_batches, IsPart, PartValue, State, early_at, Table, value_of}
-use Rattle.replica.specs.declared.Progress.TheInside as progress
+use Rattle.replica.specs.declared.progress.Progress.TheInside as progress
 use Rattle.replica.specs.declared.saved.Saved.{Saved}
 use Rattle.replica.specs.Ahead.{IsTable}
 use Rattle.replica.specs.Hearing.{HearingValue, IsQuiet, KeepsAllOrNone, SaysSame}

@@ -6,7 +6,7 @@ use super::jobs::TWO_EDGES;
 use super::script::Step::{self, *};
 use super::script::copied;
 use super::*;
-use crate::shown::copy_rows;
+use crate::hearing::copy_rows;
 
 /// Copies of rows and of accumulators.
 fn copied_rows(rt: &HostRuntime, snapshot: &Snapshot) -> Option<(Rows, Rows)> {

@@ -4,6 +4,7 @@ use super::jobs::{Job, add_job, graph};
 use super::*;
 use crate::level::count_set;
 use crate::pull::pull_own;
+use crate::spread::Own;
 use crate::start::{start_marks, start_rows};
 use std::alloc::Global;
 use std::thread::Threads;
@@ -80,7 +81,13 @@ struct Found {
 
 /// What the first rows of a part become where each is raised by those of its predecessors, in blocks that are halved so
 /// often; none where memory was refused.
-fn pulled<R: Threads + Sync>(rt: &R, alloc: Global, depth: u32, part: &Part) -> Option<Found> {
+fn pulled<R: Threads + Sync>(
+    rt: &R,
+    alloc: Global,
+    depth: u32,
+    part: &Part,
+    targets: &Targets,
+) -> Option<Found> {
     let first = start_rows(alloc, part).ok()?;
     let changed = start_marks(alloc, part).ok()?;
     let mut rows = start_rows(alloc, part).ok()?;
@@ -89,7 +96,13 @@ fn pulled<R: Threads + Sync>(rt: &R, alloc: Global, depth: u32, part: &Part) -> 
     if first.len() != count || changed.len() != count {
         return None;
     }
-    pull_own(rt, depth, part, &first, &changed, &mut rows, &mut marks);
+    let own = Own {
+        targets: &*targets,
+        part: &*part,
+        rows: &first,
+        marks: &changed,
+    };
+    pull_own(rt, depth, &own, &mut rows, &mut marks);
     Some(Found { rows, marks })
 }
 
@@ -111,9 +124,10 @@ fn are_pulled_alike<R: Threads + Sync>(
     part: &Part,
     replica: &Replica,
 ) -> Option<bool> {
+    let targets = Targets::of(alloc, part).ok()?;
     let mut alike = true;
     for depth in 0..6u32 {
-        alike = alike && are_those_of(&pulled(rt, alloc, depth, part)?, replica);
+        alike = alike && are_those_of(&pulled(rt, alloc, depth, part, &targets)?, replica);
     }
     Some(alike)
 }

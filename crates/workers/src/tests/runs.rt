@@ -2,7 +2,6 @@
 
 use super::*;
 use ball_model::{Estimate, MemReader, MemWriter};
-use std::process::Abort;
 use std::thread;
 use std::thread::Threads;
 

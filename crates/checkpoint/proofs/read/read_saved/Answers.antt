@@ -27,9 +27,9 @@ pub returns-in_err-saved-clause-refused : goal.returns-in_err-saved-clause-refus
 returns-in_err-saved-clause-refused g c =
     let text = c.in_ok-bytes.bytes.now in
     let e = c.in_err-saved.field-0.0 in
-    let head = c.in_ok-header.ensures.head c.in_ok-bytes.ensures.whole ∙ ap (λ (l : List ℕ). checkpoint_head_at (take 54 l)) (sym c.in_ok-bytes.ensures.bytes) in
+    let head = (c.in_ok-header.ensures.text c.in_ok-bytes.ensures.whole).head ∙ ap (λ (l : List ℕ). checkpoint_head_at (take 54 l)) (sym c.in_ok-bytes.ensures.bytes) in
     let none : e ≡ errors.Shape → (bytes : List ℕ) → g.R.Read.remaining c.args.reader.now ≡ Some bytes → TellNone c.args.part.now bytes = λ shape bytes known.
-    let whole = subst (λ (l : List ℕ). bytes ≡ sealed l) (sym c.in_ok-bytes.ensures.bytes) (c.in_ok-header.ensures.sealed c.in_ok-bytes.ensures.whole bytes known) in
+    let whole = subst (λ (l : List ℕ). bytes ≡ sealed l) (sym c.in_ok-bytes.ensures.bytes) ((c.in_ok-header.ensures.text c.in_ok-bytes.ensures.whole).is_sealed bytes known) in
     record {
       second = λ v k part is.
           let told = second_told v bytes text k.state whole is in
@@ -50,29 +50,29 @@ pub returns-clause-refused : goal.returns-clause-refused
 returns-clause-refused g c =
     let text = c.in_ok-bytes.bytes.now in
     let saved = c.in_ok-saved.saved in
-    let head = c.in_ok-header.ensures.head c.in_ok-bytes.ensures.whole ∙ ap (λ (l : List ℕ). checkpoint_head_at (take 54 l)) (sym c.in_ok-bytes.ensures.bytes) in
+    let head = (c.in_ok-header.ensures.text c.in_ok-bytes.ensures.whole).head ∙ ap (λ (l : List ℕ). checkpoint_head_at (take 54 l)) (sym c.in_ok-bytes.ensures.bytes) in
     refuse_by {part = c.args.part.now} {saved = saved} c.fitting.result _ c.fitting.ensures.kind c.fitting.ensures.refused (λ no_fit.
     let none : errors.Shape ≡ errors.Shape → (bytes : List ℕ) → g.R.Read.remaining c.args.reader.now ≡ Some bytes → TellNone c.args.part.now bytes = λ shape bytes known.
-    let whole = subst (λ (l : List ℕ). bytes ≡ sealed l) (sym c.in_ok-bytes.ensures.bytes) (c.in_ok-header.ensures.sealed c.in_ok-bytes.ensures.whole bytes known) in
+    let whole = subst (λ (l : List ℕ). bytes ≡ sealed l) (sym c.in_ok-bytes.ensures.bytes) ((c.in_ok-header.ensures.text c.in_ok-bytes.ensures.whole).is_sealed bytes known) in
     record {
       second = λ v k part is.
           let told = second_told v bytes text k.state whole is in
           no_fit (keepable_fits c.args.part.now saved v k
           (c.in_ok-saved.ensures.right (ap (λ (h : CheckpointHeader). h.version) head ∙ told.version_is) v k part (told.step ∙ sym (ap (λ (h : CheckpointHeader). h.superstep) head)) told.body_is)
-          c.in_ok-saved.ensures.width c.in_ok-saved.ensures.accumulated);
+          c.in_ok-saved.ensures.shape.rows c.in_ok-saved.ensures.shape.accumulated);
       first = λ v k part is.
           let told = first_told v bytes text k.state whole is in
           no_fit (keepable_fits c.args.part.now saved (without_names v) (unnamed_keepable v k)
           (c.in_ok-saved.ensures.first (ap (λ (h : CheckpointHeader). h.version) head ∙ told.version_is) v k part (told.step ∙ sym (ap (λ (h : CheckpointHeader). h.superstep) head)) told.body_is)
-          c.in_ok-saved.ensures.width c.in_ok-saved.ensures.accumulated);
+          c.in_ok-saved.ensures.shape.rows c.in_ok-saved.ensures.shape.accumulated);
     } in
     body_refuses g.R.CountedRead.sure_calls errors.Shape c.in_ok-header.ensures.done (inr refl) none)
 
 pub returns-clause-first : goal.returns-clause-first
 returns-clause-first g c = IfOk-weaker c.fitting.result _ _ (λ s same. λ v k part known.
     let text = c.in_ok-bytes.bytes.now in
-    let head = c.in_ok-header.ensures.head c.in_ok-bytes.ensures.whole ∙ ap (λ (l : List ℕ). checkpoint_head_at (take 54 l)) (sym c.in_ok-bytes.ensures.bytes) in
-    let whole = subst (λ (l : List ℕ). first_checkpoint_bytes v ≡ sealed l) (sym c.in_ok-bytes.ensures.bytes) (c.in_ok-header.ensures.sealed c.in_ok-bytes.ensures.whole (first_checkpoint_bytes v) known) in
+    let head = (c.in_ok-header.ensures.text c.in_ok-bytes.ensures.whole).head ∙ ap (λ (l : List ℕ). checkpoint_head_at (take 54 l)) (sym c.in_ok-bytes.ensures.bytes) in
+    let whole = subst (λ (l : List ℕ). first_checkpoint_bytes v ≡ sealed l) (sym c.in_ok-bytes.ensures.bytes) ((c.in_ok-header.ensures.text c.in_ok-bytes.ensures.whole).is_sealed (first_checkpoint_bytes v) known) in
     let told = first_told v (first_checkpoint_bytes v) text k.state whole refl in
     subst (λ (x : Saved). IsRebuilt c.args.part.now x (without_names v)) (sym same) (c.in_ok-saved.ensures.first (ap (λ (h : CheckpointHeader). h.version) head ∙ told.version_is) v k part (told.step ∙ sym (ap (λ (h : CheckpointHeader). h.superstep) head)) told.body_is)) c.fitting.ensures.same
 
@@ -80,13 +80,13 @@ pub returns-clause-spelled : goal.returns-clause-spelled
 returns-clause-spelled g c = IfOk-weaker c.fitting.result _ _ (λ s same. λ v told_of is bytes known.
     let r = subst (λ (x : Saved). IsRebuilt c.args.part.now x v) same told_of in
     let text = c.in_ok-bytes.bytes.now in
-    let whole = subst (λ (l : List ℕ). bytes ≡ sealed l) (sym c.in_ok-bytes.ensures.bytes) (c.in_ok-header.ensures.sealed c.in_ok-bytes.ensures.whole bytes known) in
-    let long = subst (λ (l : List ℕ). 54 ≤ length l) (sym c.in_ok-bytes.ensures.bytes) (c.in_ok-header.ensures.length c.in_ok-bytes.ensures.whole) in
-    let head = c.in_ok-header.ensures.head c.in_ok-bytes.ensures.whole ∙ ap (λ (l : List ℕ). checkpoint_head_at (take 54 l)) (sym c.in_ok-bytes.ensures.bytes) in
+    let whole = subst (λ (l : List ℕ). bytes ≡ sealed l) (sym c.in_ok-bytes.ensures.bytes) ((c.in_ok-header.ensures.text c.in_ok-bytes.ensures.whole).is_sealed bytes known) in
+    let long = subst (λ (l : List ℕ). 54 ≤ length l) (sym c.in_ok-bytes.ensures.bytes) ((c.in_ok-header.ensures.text c.in_ok-bytes.ensures.whole).long) in
+    let head = (c.in_ok-header.ensures.text c.in_ok-bytes.ensures.whole).head ∙ ap (λ (l : List ℕ). checkpoint_head_at (take 54 l)) (sym c.in_ok-bytes.ensures.bytes) in
     let short = length-take 54 text in
     let passed = ap (check_checkpoint_head c.args.part.now) (sym head) ∙ c.in_ok-header.ensures.checked in
     let checked = subst (λ (p : PartValue). check_checkpoint_head p (checkpoint_head_at (take 54 text)) ≡ Ok tt) (sym r.part_is) passed in
-    let step = sym (r.superstep ∙ c.in_ok-saved.ensures.superstep ∙ ap (λ (h : CheckpointHeader). h.superstep) head) in
+    let step = sym (r.superstep ∙ c.in_ok-saved.ensures.shape.superstep ∙ ap (λ (h : CheckpointHeader). h.superstep) head) in
     let fits : (i : ℕ) → get_or (take 54 text) i 0 < 256 =
     front_fits text (take 54 text) (drop 54 text) (sym (take-append-drop 54 text)) c.in_ok-saved.ensures.bytes in
     let front : (n : ℕ) → (checkpoint_head_at (take 54 text)).version ≡ n → take 54 text ≡ front_bytes n v =

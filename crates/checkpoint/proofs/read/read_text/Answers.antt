@@ -44,26 +44,18 @@ returns-clause-done g c =
       is_form = λ bytes known. subst (λ (r : Result ℕ KeepError). IsOk r) (sym (whole_fine c.read_seal.new.reader part p seal c.in_ok-read_seal.ensures.end (length-sha256 text) bytes known)) refl;
     }
 
-pub returns-clause-sealed : goal.returns-clause-sealed
-returns-clause-sealed g c = λ whole bytes known.
-    let p = c.in_ok-header.ensures.done.grows in
-    let text = p.piece in
-    let right = c.digest-right.ensures.value text (p.grown.digested [] c.requires.hasher) in
+pub returns-clause-text : goal.returns-clause-text
+returns-clause-text g c = λ whole.
+    let p = c.in_ok-header.ensures.done in
+    let text = p.grows.piece in
+    let right = c.digest-right.ensures.value text (p.grows.grown.digested [] c.requires.hasher) in
     let seal = subst (λ (l : List ℕ). Consumes (g.R.Read.remaining c.read_content.new.reader) (g.R.Read.remaining c.read_seal.new.reader) l) right c.in_ok-read_seal.ensures.done in
-    let kept = c.digest-right.ensures.bytes ∙ text_kept p.grown c.requires (sym c.digest-right.ensures.whole ∙ whole) in
-    subst (λ (l : List ℕ). bytes ≡ l ++ sha256 l) (sym kept) (whole_sealed c.read_seal.new.reader p seal c.in_ok-read_seal.ensures.end bytes known)
-
-pub returns-clause-head : goal.returns-clause-head
-returns-clause-head g c = λ whole.
-    let p = c.in_ok-header.ensures.done in
     let kept = c.digest-right.ensures.bytes ∙ text_kept p.grows.grown c.requires (sym c.digest-right.ensures.whole ∙ whole) in
-    p.head ∙ ap (λ (l : List ℕ). checkpoint_head_at (take 54 l)) (sym kept)
-
-pub returns-clause-length : goal.returns-clause-length
-returns-clause-length g c = λ whole.
-    let p = c.in_ok-header.ensures.done in
-    let kept = c.digest-right.ensures.bytes ∙ text_kept p.grows.grown c.requires (sym c.digest-right.ensures.whole ∙ whole) in
-    subst (λ (l : List ℕ). 54 ≤ length l) (sym kept) p.long
+    record {
+      head = p.head ∙ ap (λ (l : List ℕ). checkpoint_head_at (take 54 l)) (sym kept);
+      long = subst (λ (l : List ℕ). 54 ≤ length l) (sym kept) p.long;
+      is_sealed = λ bytes known. subst (λ (l : List ℕ). bytes ≡ l ++ sha256 l) (sym kept) (whole_sealed c.read_seal.new.reader p.grows seal c.in_ok-read_seal.ensures.end bytes known);
+    }
 
 pub returns-in_err-header-clause-within : goal.returns-in_err-header-clause-within
 returns-in_err-header-clause-within g c = within-more c.args.part.now _ _ c.in_err-header.ensures.within

@@ -1,4 +1,4 @@
-use Rattle.std.proofs.Common.{List, ℕ, [], ◌++◌, ◌∙◌, ap, sym, arith, map, append-nil}
+use Rattle.std.proofs.Common.{List, ℕ, [], ◌++◌, ◌∙◌, ap, sym, arith, map, refl, append-nil}
 use Rattle.std.proofs.lemmas.Result.{err_from_is_err_and}
 use Rattle.ball_model.specs.Checkpoint.{held_bytes, table_bytes}
 use Rattle.figures.specs.Values.{value_of}
@@ -92,3 +92,6 @@ returns-clause-first c = λ first v k part step is.
       accumulated = sym held.accumulated;
       early = sym held.early;
     }
+
+pub returns-clause-shape : goal.returns-clause-shape
+returns-clause-shape c = record { superstep = refl; rows = c.in_ok-vertices.ensures.width; accumulated = c.in_ok-held.ensures.width }

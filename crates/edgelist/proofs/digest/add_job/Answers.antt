@@ -15,4 +15,4 @@ returns c = λ m h1.
     let h7 = c.add-6.ensures _ h6 in
     let h8 = c.add_edges.ensures _ h7 in
     subst (λ (bs : List ℕ). Holds256 c.add_edges.new.hasher bs) (seven-behind m _ _ _ _ _ _ _)
-    (rw (c.to_be_bytes.ensures, c.to_be_bytes-2.ensures, c.to_be_bytes-3.ensures, c.to_be_bytes-4.ensures, c.to_be_bytes-5.ensures, c.vertices.ensures.count, c.edges.ensures) at h8)
+    (rw (c.to_be_bytes.ensures, c.to_be_bytes-2.ensures, c.to_be_bytes-3.ensures, c.to_be_bytes-4.ensures, c.to_be_bytes-5.ensures, c.log2m.ensures.value, c.seed.ensures, c.parts.ensures.value, c.limit.ensures.value, c.vertices.ensures.count, c.edges.ensures) at h8)

@@ -3,7 +3,10 @@ use Rattle.std.specs.Prelude.{MatchOption, None, Some}
 use Rattle.clap.specs.Words.{Row, Text, subcommand_of}
 use Rattle.clap.proofs.OnLiterals.{clap_on_literals}
 use Rattle.hyperball.specs.CommandLine.{gather_app, hyperball_app, node_app, replay_app, run_app}
+use Rattle.hyperball.specs.Wishes.{IsWish}
 use Rattle.hyperball.specs.Words.{AsksProgress, GivesProgress, HasFaults, flag_text}
+use Rattle.hyperball.specs.declared.cli.Wish.{Wish}
+use Rattle.hyperball.specs.declared.cli.Wish.TheVariants as wish
 use Rattle.hyperball.proofs.NameLemmas.{of_names, some_parsers}
 use Rattle.hyperball.proofs.laws.words_of_progress.Goals as goal
 
@@ -43,38 +46,6 @@ returns-clause-gather c = record {
   flag = λ p take accepted. of_names (λ q. GivesProgress (subcommand_of (hyperball_app q) gather_line) true) (λ at. refl) p take;
 }
 
-abbrev plain_line : List Text
-plain_line = codes "hyperball" ∷ codes "run" ∷ codes "--parts" ∷ codes "2" ∷ []
-
-pub returns-clause-plain : goal.returns-clause-plain
-unfolding clap_on_literals hyperball_app gather_app node_app replay_app run_app
-returns-clause-plain c = record {
-  flag = λ p take accepted. of_names (λ q. GivesProgress (subcommand_of (hyperball_app q) plain_line) false) (λ at. refl) p take;
-}
-
-abbrev plain_node_line : List Text
-plain_node_line = codes "hyperball" ∷ codes "node" ∷ []
-
-pub returns-clause-plain_node : goal.returns-clause-plain_node
-unfolding clap_on_literals hyperball_app gather_app node_app replay_app run_app
-returns-clause-plain_node c = record {
-  flag = λ p take accepted. of_names (λ q. GivesProgress (subcommand_of (hyperball_app q) plain_node_line) false) (λ at. refl) p take;
-}
-
-abbrev plain_gather_line : List Text
-plain_gather_line = codes "hyperball" ∷ codes "gather" ∷ codes "--parts=3" ∷ []
-
-pub returns-clause-plain_gather : goal.returns-clause-plain_gather
-unfolding clap_on_literals hyperball_app gather_app node_app replay_app run_app
-returns-clause-plain_gather c = record {
-  flag = λ p take accepted. of_names (λ q. GivesProgress (subcommand_of (hyperball_app q) plain_gather_line) false) (λ at. refl) p take;
-}
-
-pub returns-clause-refused : goal.returns-clause-refused
-returns-clause-refused c = λ words kinds has some. record {
-  flag = λ p take accepted. absurd (some (sym (has.are p take) ∙ accepted));
-}
-
 different : codes "true" ≡ codes "false" → ⊥
 different same = absurd (cc)
 
@@ -90,22 +61,12 @@ never_both words name rows accepted is asked plain =
     (subst (λ (sub : Option (Text × List Row)). GivesProgress sub true) is (asked.flag some_parsers (refl, refl) none))
     (subst (λ (sub : Option (Text × List Row)). GivesProgress sub false) is (plain.flag some_parsers (refl, refl) none))
 
+-- so it is of each command
+wish_once : (words : List Text) (x : Wish) → IsWish words x → AsksProgress words true → AsksProgress words false → ⊥
+wish_once words (wish.Run w) is asked plain = let command = is.command some_parsers (refl, refl) in never_both _ _ command.0 is.accepted command.1 asked plain
+wish_once words (wish.Replay w) is asked plain = let command = is.command some_parsers (refl, refl) in never_both _ _ command.0 is.accepted command.1 asked plain
+wish_once words (wish.Node w) is asked plain = let command = is.command some_parsers (refl, refl) in never_both _ _ command.0 is.accepted command.1 asked plain
+wish_once words (wish.Gather w) is asked plain = let command = is.command some_parsers (refl, refl) in never_both _ _ command.0 is.accepted command.1 asked plain
+
 pub returns-clause-one : goal.returns-clause-one
-returns-clause-one c = λ words w is asked plain.
-    let command = is.command some_parsers (refl, refl) in
-    never_both _ _ command.0 is.accepted command.1 asked plain
-
-pub returns-clause-one_replay : goal.returns-clause-one_replay
-returns-clause-one_replay c = λ words w is asked plain.
-    let command = is.command some_parsers (refl, refl) in
-    never_both _ _ command.0 is.accepted command.1 asked plain
-
-pub returns-clause-one_node : goal.returns-clause-one_node
-returns-clause-one_node c = λ words w is asked plain.
-    let command = is.command some_parsers (refl, refl) in
-    never_both _ _ command.0 is.accepted command.1 asked plain
-
-pub returns-clause-one_gather : goal.returns-clause-one_gather
-returns-clause-one_gather c = λ words w is asked plain.
-    let command = is.command some_parsers (refl, refl) in
-    never_both _ _ command.0 is.accepted command.1 asked plain
+returns-clause-one c = wish_once

@@ -10,4 +10,4 @@ step_marked-gain-requires c = step_by_row c.go_on-before.result c.go_on-before.n
 pub leave_behind-requires : goal.leave_behind-requires
 leave_behind-requires c =
     subst (λ (rows : Table). IsRelay rows c.go_on-before.result) (sym c.step_marked-gain.ensures.rows)
-    (may_be_left c.go_on-before.result c.args.rows.now c.args.ahead.now c.args.marks.now c.go_on-before.ensures.before c.requires.differ)
+    (may_be_left c.go_on-before.result c.args.rows.now c.args.step.now.ahead.now c.args.step.now.marks.now c.go_on-before.ensures.before c.requires.differ)

@@ -10,10 +10,10 @@ use Rattle.replica.proofs.pull.pull_block.Goals as goal
 
 pub loop-k-preserved : goal.loop-k-preserved
 loop-k-preserved c =
-    let part = c.args.part.now in
-    let own = c.args.rows.now.rows in
-    let marks = c.args.marks.now in
-    let w = c.args.rows.now.width in
+    let part = c.args.pull.now.part.now in
+    let own = c.args.pull.now.rows.now.rows in
+    let marks = c.args.pull.now.marks.now in
+    let w = c.args.pull.now.rows.now.width in
     let n = length c.args.touched.now in
     let k = c.loop-k.k in
     let inv = c.loop-k.invariant in
@@ -38,7 +38,7 @@ loop-k-preserved c =
 
 pub returns : goal.returns
 returns c =
-    let w = c.args.rows.now.width in
+    let w = c.args.pull.now.rows.now.width in
     let n = length c.args.touched.now in
     let inv = c.loop-k.invariant in
     let end : c.loop-k.k ≡ n = omega (arith, c.loop-k-test.false, c.loop-k.auto.k-end) in

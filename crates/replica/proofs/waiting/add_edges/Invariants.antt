@@ -3,4 +3,4 @@ use Rattle.replica.specs.Waiting.{AddsEdges}
 use Rattle.replica.proofs.waiting.add_edges.Given as goal
 
 abbrev pub invariant-loop-place : goal.invariant-loop-place
-invariant-loop-place l = AddsEdges l.rows l.i (take l.place-index l.places) l.initial.waiting.items l.waiting.items l.initial.accumulated l.accumulated l.initial.touched l.touched
+invariant-loop-place l = AddsEdges l.rows l.edges.i (take l.place-index l.edges.places.now) l.initial.waiting.items l.waiting.items l.initial.accumulated l.accumulated l.initial.touched l.touched

@@ -11,13 +11,13 @@ returns-in_err-records-clause-refused c = λ limits delimiter text g plain.
 pub returns-clause-ok : goal.returns-clause-ok
 returns-clause-ok c = λ limits delimiter text g plain.
     IfOk-weaker c.into_list.result _ _ (λ list is.
-    given-network limits delimiter text c.args.self c.in_ok-records.records c.read_lines.new.reading.labels c.read_lines.new.reading.edges.items g (rw c.deref.ensures.value at c.in_ok-records.ensures.ok) plain
+    given-network limits delimiter text c.args.self c.in_ok-records.records c.read_lines.new.self.labels c.read_lines.new.self.edges.items g (rw c.deref.ensures.value at c.in_ok-records.ensures.ok) plain
     ∙ ap Ok (sym is)) c.into_list.ensures.graph
 
 pub returns-clause-count : goal.returns-clause-count
 returns-clause-count c = λ limits delimiter text g plain.
     IfOk-weaker c.into_list.result _ _ (λ list is.
-    is ∙ sym (given-through limits delimiter text c.args.self c.in_ok-records.records c.read_lines.new.reading.labels c.read_lines.new.reading.edges.items g (rw c.deref.ensures.value at c.in_ok-records.ensures.ok) plain).count) c.into_list.ensures.number
+    is ∙ sym (given-through limits delimiter text c.args.self c.in_ok-records.records c.read_lines.new.self.labels c.read_lines.new.self.edges.items g (rw c.deref.ensures.value at c.in_ok-records.ensures.ok) plain).count) c.into_list.ensures.number
 
 pub returns-clause-refused : goal.returns-clause-refused
 returns-clause-refused c = λ limits delimiter text g plain.

@@ -18,10 +18,10 @@ own_is c = rw c.deref_mut.ensures.value (c.go_on.ensures.own_is ∙ shown_is c)
 items_are : (c : After-step_rows) → (with_items c.go_on.new.own c.step_rows.new.tallies).items ≡ c.step_rows.new.tallies
 items_are c = with_items_is c.go_on.new.own c.step_rows.new.tallies (c.step_rows.auto.tallies ∙ c.deref_mut.ensures.len)
 
-stepped : (c : After-step_rows) → map value_of (with_items c.go_on.new.own c.step_rows.new.tallies).items ≡ next_tallies c.args.estimator.now c.args.t c.args.ahead.now.rows c.args.self.now (length c.args.ahead.now.rows)
+stepped : (c : After-step_rows) → map value_of (with_items c.go_on.new.own c.step_rows.new.tallies).items ≡ next_tallies c.args.step.now.estimator.now c.args.step.now.t c.args.step.now.ahead.now.rows c.args.self.now (length c.args.step.now.ahead.now.rows)
 stepped c =
     ap (map value_of) (items_are c) ∙ c.step_rows.ensures.tallies
-    ∙ ap (λ (l : List TallyValue). next_tallies c.args.estimator.now c.args.t c.args.ahead.now.rows l (length c.args.ahead.now.rows)) (own_is c)
+    ∙ ap (λ (l : List TallyValue). next_tallies c.args.step.now.estimator.now c.args.step.now.t c.args.step.now.ahead.now.rows l (length c.args.step.now.ahead.now.rows)) (own_is c)
 
 pub invariant_of-self : goal.invariant_of-self
 unfolding shown_tallies next_tallies
@@ -29,7 +29,7 @@ invariant_of-self c =
     let at = (goal.at.invariant_of-self c).After-step_rows in
     let new = map value_of (with_items c.go_on.new.own c.step_rows.new.tallies).items in
     let gone : c.take-out.new.self ≡ None = search rules in
-    rw gone (c.go_on.ensures.behind_is new (subst (λ (l : List TallyValue). DifferAt c.args.marks.now l new) (sym (shown_is at)) (grind (arith, length-next_tallies, get_or-map-range_with_len, stepped at))))
+    rw gone (c.go_on.ensures.behind_is new (subst (λ (l : List TallyValue). DifferAt c.args.step.now.marks.now l new) (sym (shown_is at)) (grind (arith, length-next_tallies, get_or-map-range_with_len, stepped at))))
 
 pub returns : goal.returns
 unfolding shown_tallies

@@ -19,11 +19,11 @@ returns-in-Over-clause-fate g c =
     let w : Caller = caller c.run_superstep.new.exchange in
     let p : ℕ = c.args.self.now.node.part in
     let r = c.run_superstep.new.replica in
-    let end = subst (λ (t : SuperstepEnd). IsSuperstepEnd (caller c.loop.exchange) p r t w) c.in-Over.is c.in_ok-run_superstep.ensures.end in
-    let stands = stands_back v (caller c.loop.exchange) p r c.loop.invariant.0 c.in_ok-run_superstep.ensures.stands in
+    let end = subst (λ (t : SuperstepEnd). IsSuperstepEnd (caller c.loop.exchange) p r t w) c.in-Over.is c.in_ok-run_superstep.ensures.ends.is in
+    let stands = stands_back v (caller c.loop.exchange) p r c.loop.invariant.0 c.in_ok-run_superstep.ensures.ends.stands in
     let keep : ℕ = c.args.self.now.orders.keep in
-    let same = c.in_ok-run_superstep.ensures.stays (λ next. let both = sym next ∙ c.in-Over.is in absurd (cc)) in
-    let kept = kept_before keep c.loop.replica.superstep v _ w c.loop.invariant.0 c.in_ok-run_superstep.ensures.kept in (
+    let same = c.in_ok-run_superstep.ensures.ends.stays (λ next. let both = sym next ∙ c.in-Over.is in absurd (cc)) in
+    let kept = kept_before keep c.loop.replica.superstep v _ w c.loop.invariant.0 c.in_ok-run_superstep.ensures.ends.kept in (
       told_before v _ w _ p c.loop.invariant.0 end.0,
       subst (λ (s : ℕ). KeptIfTold keep v s w) (sym same) kept,
       done_of v.seen.job p r stands end.1,
@@ -38,10 +38,10 @@ returns-in-Starved-clause-fate g c =
     let p : ℕ = c.args.self.now.node.part in
     let q : ℕ = c.in-Starved.source in
     let r = c.run_superstep.new.replica in
-    let end = subst (λ (t : SuperstepEnd). IsSuperstepEnd (caller c.loop.exchange) p r t w) c.in-Starved.is c.in_ok-run_superstep.ensures.end in
+    let end = subst (λ (t : SuperstepEnd). IsSuperstepEnd (caller c.loop.exchange) p r t w) c.in-Starved.is c.in_ok-run_superstep.ensures.ends.is in
     let keep : ℕ = c.args.self.now.orders.keep in
-    let same = c.in_ok-run_superstep.ensures.stays (λ next. let both = sym next ∙ c.in-Starved.is in absurd (cc)) in
-    let kept = kept_before keep c.loop.replica.superstep v _ w c.loop.invariant.0 c.in_ok-run_superstep.ensures.kept in (
+    let same = c.in_ok-run_superstep.ensures.ends.stays (λ next. let both = sym next ∙ c.in-Starved.is in absurd (cc)) in
+    let kept = kept_before keep c.loop.replica.superstep v _ w c.loop.invariant.0 c.in_ok-run_superstep.ensures.ends.kept in (
       subst (λ (s : ℕ). HasStarved v s q p w) (sym c.superstep-superstep-in-Starved.ensures.value) (starved_before v _ w _ q p c.loop.invariant.0 end),
       subst (λ (s : ℕ). KeptIfTold keep v s w) (sym (c.superstep-superstep-in-Starved.ensures.value ∙ same)) kept,
     )
@@ -56,10 +56,10 @@ pub returns-in_err-run_superstep-clause-gone : goal.returns-in_err-run_superstep
 returns-in_err-run_superstep-clause-gone g c = on_err c.from_residual-in_err-run_superstep.result (left_then _ _ _ _ _ _ _ c.loop.invariant.0 c.loop.invariant.3 c.in_err-run_superstep.ensures.gone)
 
 pub returns-in-Over-clause-came : goal.returns-in-Over-clause-came
-returns-in-Over-clause-came g c = path_then _ _ _ _ _ _ _ _ c.loop.invariant.0 c.loop.invariant.3 c.in_ok-run_superstep.ensures.came
+returns-in-Over-clause-came g c = path_then _ _ _ _ _ _ _ _ c.loop.invariant.0 c.loop.invariant.3 c.in_ok-run_superstep.ensures.ends.came
 
 pub returns-in-Starved-clause-came : goal.returns-in-Starved-clause-came
-returns-in-Starved-clause-came g c = path_then _ _ _ _ _ _ _ _ c.loop.invariant.0 c.loop.invariant.3 c.in_ok-run_superstep.ensures.came
+returns-in-Starved-clause-came g c = path_then _ _ _ _ _ _ _ _ c.loop.invariant.0 c.loop.invariant.3 c.in_ok-run_superstep.ensures.ends.came
 
 pub loop-init : goal.loop-init
 loop-init g c = (extends_self _ c.requires.caller, c.requires.stands, λ h. h, come_nowhere _ _ _ _ refl c.args.self.now.orders.keep)
@@ -81,9 +81,9 @@ loop-preserved g c =
     let u : Caller = g.E.Exchange.caller c.loop.exchange in
     let i = c.loop.invariant in (
       extends_trans v u _ i.0 c.run_superstep.ensures.seen,
-      stands_back v u c.args.self.now.node.part c.run_superstep.new.replica i.0 c.in_ok-run_superstep.ensures.stands,
+      stands_back v u c.args.self.now.node.part c.run_superstep.new.replica i.0 c.in_ok-run_superstep.ensures.ends.stands,
       i.2,
-      path_then _ v u _ _ _ _ _ i.0 i.3 c.in_ok-run_superstep.ensures.came,
+      path_then _ v u _ _ _ _ _ i.0 i.3 c.in_ok-run_superstep.ensures.ends.came,
     )
 
 pub begin_anew-requires-clause-caller : goal.begin_anew-requires-clause-caller
@@ -117,10 +117,10 @@ pub returns-in-Starved-clause-seen : goal.returns-in-Starved-clause-seen
 returns-in-Starved-clause-seen g c = extends_trans _ _ _ c.loop.invariant.0 c.run_superstep.ensures.seen
 
 pub returns-in-Over-clause-stands : goal.returns-in-Over-clause-stands
-returns-in-Over-clause-stands g c = stands_back (g.E.Exchange.caller c.args.exchange.now) (g.E.Exchange.caller c.loop.exchange) _ c.run_superstep.new.replica c.loop.invariant.0 c.in_ok-run_superstep.ensures.stands
+returns-in-Over-clause-stands g c = stands_back (g.E.Exchange.caller c.args.exchange.now) (g.E.Exchange.caller c.loop.exchange) _ c.run_superstep.new.replica c.loop.invariant.0 c.in_ok-run_superstep.ensures.ends.stands
 
 pub returns-in-Starved-clause-stands : goal.returns-in-Starved-clause-stands
-returns-in-Starved-clause-stands g c = stands_back (g.E.Exchange.caller c.args.exchange.now) (g.E.Exchange.caller c.loop.exchange) _ c.run_superstep.new.replica c.loop.invariant.0 c.in_ok-run_superstep.ensures.stands
+returns-in-Starved-clause-stands g c = stands_back (g.E.Exchange.caller c.args.exchange.now) (g.E.Exchange.caller c.loop.exchange) _ c.run_superstep.new.replica c.loop.invariant.0 c.in_ok-run_superstep.ensures.ends.stands
 
 pub returns-in_err-begin_anew-clause-stands : goal.returns-in_err-begin_anew-clause-stands
 returns-in_err-begin_anew-clause-stands g c = let p = err_from_is_err_and c.from_residual.result c.from_residual.ensures.1 in rw (p.1) tt

@@ -41,11 +41,7 @@ returns-in_err-keep_snapshot g c =
     let p = err_from_is_err_and c.from_residual.result c.from_residual.ensures.1 in
     record {
       seen = c.keep_snapshot.ensures.seen;
-      stands = rw (p.1) tt;
-      end = rw (p.1) tt;
-      stays = rw (p.1) tt;
-      kept = rw (p.1) tt;
-      came = rw (p.1) tt;
+      ends = rw (p.1) tt;
       gone = on_err c.from_residual.result (left_by _ _ _ _ _ c.in_err-keep_snapshot.ensures.gone);
       full = rw (p.1, p.2) c.in_err-keep_snapshot.ensures.full;
       alone = λ _ none. rw (p.1, p.2) (err_not_as _ _ (c.in_err-keep_snapshot.ensures.never none));
@@ -56,11 +52,7 @@ returns-in_err-tell_all g c =
     let p = err_from_is_err_and c.from_residual-in_err-tell_all.result c.from_residual-in_err-tell_all.ensures.1 in
     record {
       seen = extends_trans _ _ _ c.keep_snapshot.ensures.seen c.tell_all.ensures.seen;
-      stands = rw (p.1) tt;
-      end = rw (p.1) tt;
-      stays = rw (p.1) tt;
-      kept = rw (p.1) tt;
-      came = rw (p.1) tt;
+      ends = rw (p.1) tt;
       gone = on_err c.from_residual-in_err-tell_all.result (left_then _ _ _ _ _ _ _ c.keep_snapshot.ensures.seen c.in_ok-keep_snapshot.ensures.came (left_by _ _ _ _ _ c.in_err-tell_all.ensures.gone));
       full = rw (p.1, p.2) c.in_err-tell_all.ensures.full;
       alone = λ one _. rw (p.1, p.2) (err_not_as _ _ (c.in_err-tell_all.ensures.alone (ap (λ (j : Job). j.plan.parts) c.keep_snapshot.ensures.seen.begins.job ∙ one)));
@@ -75,11 +67,7 @@ returns-in_err-drop_old g c =
     let seen = extends_trans _ _ _ c.keep_snapshot.ensures.seen c.tell_all.ensures.seen in
     record {
       seen = extends_trans _ _ _ seen c.drop_old.ensures.seen;
-      stands = rw (p.1) tt;
-      end = rw (p.1) tt;
-      stays = rw (p.1) tt;
-      kept = rw (p.1) tt;
-      came = rw (p.1) tt;
+      ends = rw (p.1) tt;
       gone = on_err c.from_residual-in_err-drop_old.result (left_then _ _ _ _ _ _ _ seen told (left_by _ _ _ _ _ (gone _ _ part h h (c.drop_old.ensures.came part h (at_level c.keep_snapshot.new.replica c.superstep.result c.superstep.ensures.value)))));
       full = rw (p.1, p.2) c.in_err-drop_old.ensures.full;
       alone = λ _ none. rw (p.1, p.2) (err_not_as _ _ (c.in_err-drop_old.ensures.never none));
@@ -95,11 +83,7 @@ returns-in_err-hear_all g c =
     let now = extends_trans _ _ _ seen c.drop_old.ensures.seen in
     record {
       seen = extends_trans _ _ _ now c.hear_all.ensures.seen;
-      stands = rw (p.1) tt;
-      end = rw (p.1) tt;
-      stays = rw (p.1) tt;
-      kept = rw (p.1) tt;
-      came = rw (p.1) tt;
+      ends = rw (p.1) tt;
       gone = on_err c.from_residual-in_err-hear_all.result (left_then _ _ _ _ _ _ _ now dropped (left_by _ _ _ _ _ c.in_err-hear_all.ensures.gone));
       full = rw (p.1, p.2) c.in_err-hear_all.ensures.full;
       alone = λ one _. rw (p.1, p.2) (err_not_as _ _ (c.in_err-hear_all.ensures.alone (ap (λ (j : Job). j.plan.parts) now.begins.job ∙ one)));
@@ -129,14 +113,16 @@ returns-in-Level g c =
     let kept = kept_later keep c.args.replica.now.superstep v _ w (kept_by_call keep v _ (holding_in c.args.replica.now) c.in_ok-keep_snapshot.ensures.kept) (extends_trans _ _ w (extends_trans _ _ _ c.tell_all.ensures.seen c.drop_old.ensures.seen) c.hear_all.ensures.seen) in
     record {
       seen = all;
-      stands = c.close.ensures.stands v.seen.job p r.superstep stands;
-      end = closed_end v w p r c.close.new.replica c.close.result c.close.ensures.kind c.close.ensures.over (subst (λ (n : ℕ). HasToldAll v n p w) (sym found.1) told_all);
-      stays = λ other. elim c.close.ensures.kind [
-        | inl next ↦ absurd (other next)
-        | inr over ↦ ap (λ (x : State). x.superstep) (c.close.ensures.over over).0 ∙ (found.1 ∙ same)
-      ];
-      kept = kept;
-      came = path_close keep v w p _ (holding_in r) _ level (subst (λ (n : ℕ). KeptIfTold keep v n w) (sym (found.1 ∙ same)) kept) (sym (c.close.ensures.held v.seen.job p r.superstep stands));
+      ends = record {
+        stands = c.close.ensures.stands v.seen.job p r.superstep stands;
+        is = closed_end v w p r c.close.new.replica c.close.result c.close.ensures.kind c.close.ensures.over (subst (λ (n : ℕ). HasToldAll v n p w) (sym found.1) told_all);
+        stays = λ other. elim c.close.ensures.kind [
+          | inl next ↦ absurd (other next)
+          | inr over ↦ ap (λ (x : State). x.superstep) (c.close.ensures.over over).0 ∙ (found.1 ∙ same)
+        ];
+        kept = kept;
+        came = path_close keep v w p _ (holding_in r) _ level (subst (λ (n : ℕ). KeptIfTold keep v n w) (sym (found.1 ∙ same)) kept) (sym (c.close.ensures.held v.seen.job p r.superstep stands));
+      };
       gone = tt;
       full = tt;
       alone = λ _ _. ok_is_no_err _ _;
@@ -154,11 +140,13 @@ returns-in-Further g c =
     let keep : ℕ = c.args.self.now.orders.keep in
     record {
       seen = extends_trans _ _ _ now c.hear_all.ensures.seen;
-      stands = stands_back v _ p c.hear_all.new.replica now c.in_ok-hear_all.ensures.stands;
-      end = tt;
-      stays = λ other. absurd (other refl);
-      kept = kept_later keep c.args.replica.now.superstep v _ _ (kept_by_call keep v _ (holding_in c.args.replica.now) c.in_ok-keep_snapshot.ensures.kept) (extends_trans _ _ _ (extends_trans _ _ _ c.tell_all.ensures.seen c.drop_old.ensures.seen) c.hear_all.ensures.seen);
-      came = path_then _ _ _ _ _ _ _ _ now dropped (c.in_ok-hear_all.ensures.came c.args.self.now.orders.keep);
+      ends = record {
+        stands = stands_back v _ p c.hear_all.new.replica now c.in_ok-hear_all.ensures.stands;
+        is = tt;
+        stays = λ other. absurd (other refl);
+        kept = kept_later keep c.args.replica.now.superstep v _ _ (kept_by_call keep v _ (holding_in c.args.replica.now) c.in_ok-keep_snapshot.ensures.kept) (extends_trans _ _ _ (extends_trans _ _ _ c.tell_all.ensures.seen c.drop_old.ensures.seen) c.hear_all.ensures.seen);
+        came = path_then _ _ _ _ _ _ _ _ now dropped (c.in_ok-hear_all.ensures.came c.args.self.now.orders.keep);
+      };
       gone = tt;
       full = tt;
       alone = λ _ _. ok_is_no_err _ _;
@@ -184,11 +172,13 @@ returns-in-Missed g c =
     let now = extends_trans v _ _ seen c.drop_old.ensures.seen in
     record {
       seen = extends_trans _ _ _ now c.hear_all.ensures.seen;
-      stands = stands_back v _ p r now c.in_ok-hear_all.ensures.stands;
-      end = subst (λ (n : ℕ). HasStarved v n q p w) (sym found.1) (told_all, waiting_before v _ w s q p now found.0);
-      stays = λ _. found.1 ∙ ap (λ (x : State). x.superstep) c.keep_snapshot.ensures.same;
-      kept = kept_later keep c.args.replica.now.superstep v _ w (kept_by_call keep v _ (holding_in c.args.replica.now) c.in_ok-keep_snapshot.ensures.kept) (extends_trans _ _ w (extends_trans _ _ _ c.tell_all.ensures.seen c.drop_old.ensures.seen) c.hear_all.ensures.seen);
-      came = path_then _ _ _ _ _ _ _ _ now dropped (c.in_ok-hear_all.ensures.came c.args.self.now.orders.keep);
+      ends = record {
+        stands = stands_back v _ p r now c.in_ok-hear_all.ensures.stands;
+        is = subst (λ (n : ℕ). HasStarved v n q p w) (sym found.1) (told_all, waiting_before v _ w s q p now found.0);
+        stays = λ _. found.1 ∙ ap (λ (x : State). x.superstep) c.keep_snapshot.ensures.same;
+        kept = kept_later keep c.args.replica.now.superstep v _ w (kept_by_call keep v _ (holding_in c.args.replica.now) c.in_ok-keep_snapshot.ensures.kept) (extends_trans _ _ w (extends_trans _ _ _ c.tell_all.ensures.seen c.drop_old.ensures.seen) c.hear_all.ensures.seen);
+        came = path_then _ _ _ _ _ _ _ _ now dropped (c.in_ok-hear_all.ensures.came c.args.self.now.orders.keep);
+      };
       gone = tt;
       full = tt;
       alone = λ _ _. ok_is_no_err _ _;

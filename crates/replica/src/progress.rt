@@ -1,0 +1,71 @@
+//! What a replica or a snapshot has at a superstep, and in its folder what becomes of it.
+
+ghost use Rattle.std.specs.Prelude.{◌≡◌};
+ghost use Rattle.ball_model.specs.Content.{same_plan};
+
+mod merge;
+mod read;
+mod step;
+mod step_by;
+mod weights;
+
+use crate::Shown;
+use crate::early::Early;
+use crate::hearing::Hearing;
+use crate::tables::Tables;
+use ball_model::Plan;
+use edgelist::Part;
+use std::marker::Model;
+use std::sync::Arc;
+
+/// What a replica or a snapshot has at a superstep. What it tells are the calls of [`Shown`].
+///
+/// Where a replica has it there is room to go on: for a sum of each superstep up to the limit, and for an accumulator
+/// of each row until the run is over. A snapshot has no more than it tells.
+pub struct Progress {
+    pub(crate) part: Arc<Part>,
+    pub(crate) superstep: u32,
+    pub(crate) tables: Tables,
+    pub(crate) hearing: Hearing,
+    pub(crate) early: Early,
+}
+
+impl Model for Progress {
+    ghost use Rattle.replica.specs.Progress.{ProgressValue};
+
+    ghost Value = { ProgressValue };
+
+    ghost use Rattle.replica.specs.Seen.{progress_of, IsProgress};
+
+    ghost view = { progress_of };
+
+    ghost invariant = { IsProgress };
+}
+
+// Written out, and so one call wherever one is let go: the checker reads a derived one again at each place.
+impl Drop for Progress {
+    fn drop(self) {
+        let Progress {
+            part: _,
+            superstep: _,
+            tables: _,
+            hearing: _,
+            early: _,
+        } = self;
+    }
+}
+
+impl Shown for Progress {
+    ghost state = { λ k. k.state };
+
+    fn shown(&self) -> &Progress {
+        self
+    }
+}
+
+// Whether two plans are the same.
+pub(crate) fn is_same(a: &Plan, b: &Plan) -> bool
+    ensures { result ≡ same_plan a.now b.now }
+{
+    a == b
+}

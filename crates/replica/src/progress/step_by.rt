@@ -1,0 +1,71 @@
+//! A superstep that is closed in several threads.
+
+ghost use Rattle.std.specs.Prelude.{◌≡◌, OnOk, OnErr};
+ghost use Rattle.ball_model.specs.declared.names.Verdict.TheVariants as verdict;
+ghost use Rattle.replica.specs.Level.{close_answer, level_verdict};
+ghost use Rattle.replica.specs.Change.{Advances};
+ghost use Rattle.replica.specs.Seen.{GoesFurther, HoldsTogether, IsState};
+
+use crate::level::Closing;
+use crate::targets::Targets;
+use crate::{Progress, Shown};
+use ball_model::{CloseError, Verdict};
+use figures::Estimator;
+use std::thread::Threads;
+
+impl Progress {
+    /// Closes the superstep as [`Progress::close_level`] does, in so many threads where it is worth it.
+    pub(crate) fn close_level_by<R: Threads + Sync>(
+        &mut self,
+        rt: &R,
+        threads: usize,
+        targets: &Targets,
+        estimator: &Estimator,
+        weights: &mut [u64],
+    ) -> Result<u32, CloseError>
+        requires { HoldsTogether self.old targets.now estimator.now weights.old }
+        ensures exact { result ≡ close_answer self.old.state }
+        ensures refused { OnErr result (self.new.state ≡ self.old.state) }
+        ensures advances { OnOk result (Advances self.old.state self.new.state) }
+        ensures goes_on { HoldsTogether self.new targets.now estimator.now weights.new }
+        ensures state { IsState self.old.state }
+    {
+        let next = self.superstep() + 1;
+        match self.missing() {
+            Some(source) => Err(CloseError::Waiting { source }),
+            None => match self.level_verdict() {
+                Verdict::GoOn => {
+                    self.advance_by(rt, threads, targets, estimator, weights);
+                    Ok(next)
+                }
+                Verdict::Stable | Verdict::Limit => Err(CloseError::Finished),
+            },
+        }
+    }
+
+    // One superstep more, as `advance`.
+    fn advance_by<R: Threads + Sync>(
+        &mut self,
+        rt: &R,
+        threads: usize,
+        targets: &Targets,
+        estimator: &Estimator,
+        weights: &mut [u64],
+    )
+        requires goes_on { HoldsTogether self.old targets.now estimator.now weights.old }
+        requires going { level_verdict self.old.state ≡ verdict.GoOn }
+        ensures { GoesFurther self.old.state self.new targets.now estimator.now weights.new }
+    {
+        let plan = *self.part.plan();
+        self.hearing
+            .hear_own_by(rt, threads, targets, &self.part, &self.tables);
+        let closing = Closing {
+            estimator: &*estimator,
+            t: self.superstep,
+        };
+        self.tables
+            .next_by(rt, threads, &closing, &mut self.hearing, weights);
+        self.superstep += 1;
+        self.hearing.hear_early(targets, &plan, &mut self.early, 0);
+    }
+}
