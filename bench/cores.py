@@ -1,19 +1,21 @@
 #!/usr/bin/env python3
-"""Measures whole runs and their supersteps, on one core and on four, beside other programs, all in one series.
+"""Measures whole runs, reading and supersteps, on one core and on four, beside other programs, all in one series.
 
 Usage: bench/cores.py [--before PROGRAM] [--beside PROGRAM] [--best 5] [--records 5000000] [--log2m 4,8,10] [GRAPH ..]
 
-GRAPH is web-like, power-law or path (all, if none is named): bench/generate.py makes the first two, with so many
-records; the path has 100,000 vertices and ends at superstep 300 (log2m 8).
+GRAPH is web-like, power-law, urls or path (all, if none is named): bench/generate.py makes the first three, with so
+many records, and urls is web-like with long addresses as labels; the path has 100,000 vertices and ends at superstep
+300 (log2m 8).
 
-Prints one table: for each graph and log2m the seconds of the supersteps (by --progress: from their begin to the line of
-the last one), the seconds of the whole run, both by the clock, and its peak memory. Each has a column for every way to
-run it: with --keep 0 and with snapshots, by one thread and by four. --before names another build of this program, which
-runs the same ways, or without --threads if it refuses that. --beside names any program that takes --log2m, --threads
-and --limit and writes the same bytes; its supersteps are timed if it takes --progress. All ways are run in turn, first
-once for their reports, which have to be the same, and then as often as --best says; of the seconds the least stand in
-the table, and of the peaks the greatest. The line below it says how far like runs differed: stop all other work first.
-HYPERBALL names another build to measure.
+Prints one table: for each graph and log2m the seconds of reading (by --progress: from the start to the line that
+records and vertices are read), of the supersteps (from their begin to the line of the last one) and of the whole run,
+all by the clock, and the peak memory while reading and of the whole run. Each has a column for every way to run it:
+with --keep 0 and with snapshots, by one thread and by four. --before names another build of this program, which runs
+the same ways, or without --threads if it refuses that. --beside names any program that takes --log2m, --threads and
+--limit and writes the same bytes; its reading and supersteps are measured if it takes --progress. All ways are run in
+turn, first once for their reports, which have to be the same, and then as often as --best says; of the seconds the
+least stand in the table, and of the peaks the greatest. The line below it says how far like runs differed: stop all
+other work first. HYPERBALL names another build to measure.
 """
 import argparse
 import os
@@ -27,7 +29,8 @@ from watched import digest_of, end_in_order, watched
 
 HERE = os.path.dirname(os.path.abspath(__file__))
 PROGRAM = os.environ.get("HYPERBALL") or program()
-GRAPHS = ("web-like", "power-law", "path")
+GRAPHS = ("web-like", "power-law", "urls", "path")
+MEASURES = ("reading, s", "supersteps, s", "whole run, s", "peak while reading, MiB", "peak, MiB")
 PATH_VERTICES, PATH_LIMIT, PATH_LOG2M = 100_000, "300", "8"
 
 
@@ -40,13 +43,15 @@ class Way:
     runs: list = field(default_factory=list)
 
     def watched(self, words, path, report):
-        return watched([*self.words, *words], path, report, environment(one_heap="--keep" in self.words))
+        return watched([*self.words, *words], path, report, environment(one_heap=True))
 
     def measures(self):
-        """Seconds of the supersteps and of the whole run, and the peak, as they stand in the table."""
+        """The MEASURES as they stand in the table, each of them empty if no run tells it."""
+        reads = [it.read() for it in self.runs if it.read() is not None]
         supersteps = [it.supersteps() for it in self.runs if it.supersteps() is not None]
-        whole = min(it.whole for it in self.runs)
-        return f"{min(supersteps):.2f}" if supersteps else "", f"{whole:.2f}", f"{max(it.peak for it in self.runs):.0f}"
+        seconds = [at for at, _, _ in reads], supersteps, [it.whole for it in self.runs]
+        peaks = [peak for _, _, peak in reads if peak > 0], [it.peak for it in self.runs]
+        return [f"{min(it):.2f}" if it else "" for it in seconds] + [f"{max(it):.0f}" if it else "" for it in peaks]
 
     def spread(self):
         """The longest of the runs over the shortest."""
@@ -118,8 +123,7 @@ def row(cells):
 
 def rows(graph, log2m, ways):
     """The lines of the table for one graph."""
-    names = ("supersteps, s", "whole run, s", "peak, MiB")
-    for name, values in zip(names, zip(*(way.measures() for way in ways))):
+    for name, values in zip(MEASURES, zip(*(way.measures() for way in ways))):
         yield row([graph, log2m, name, *values])
 
 

@@ -1,12 +1,14 @@
 #!/usr/bin/env python3
 """Writes an edge list of a graph of a given kind and size to standard output.
 
-Usage: generate.py power-law|web|follows|friends RECORDS [SEED [VERTICES]]
+Usage: generate.py power-law|web|urls|follows|friends RECORDS [SEED [VERTICES]]
 
 power-law: sources are drawn evenly, targets by a power of an even draw, so that few vertices have most of the edges;
            labels come in no order. About one vertex for five records.
 web:       pages in the order of a crawl, each with about ten links: most to pages near by, as on one site, some to
            pages that many link to, and a few anywhere. Labels come nearly in order, as a crawl gives them.
+urls:      the links that web writes for the same seed, with a long address in place of each number: page 12067 is
+           https://www.host12.example.org/dir3/page-7.html. Pages near by are on one site, and begin alike.
 follows:   each vertex in turn, with those that it follows: few follow most, and few are followed by most. Labels are
            the numbers below VERTICES (a fourteenth of the records, if none are given), and each of them occurs.
            It writes some millions of records a second, for large graphs.
@@ -43,6 +45,18 @@ def web(records, draw):
             yield page, target
         left -= links
         page += 1
+
+
+def address(page):
+    """The URL of a page: a site has a thousand of them, twenty in each of its folders."""
+    site, place = divmod(page, 1000)
+    folder, number = divmod(place, 20)
+    return f"https://www.host{site}.example.org/dir{folder}/page-{number}.html"
+
+
+def urls(records, draw):
+    for page, target in web(records, draw):
+        yield address(page), address(target)
 
 
 def lines(edges):
@@ -100,7 +114,7 @@ def texts(kind, records, draw, vertices):
     return LARGE[kind](vertices, records, draw)
 
 
-SMALL = {"power-law": power_law, "web": web}
+SMALL = {"power-law": power_law, "web": web, "urls": urls}
 LARGE = {"follows": follows, "friends": friends}
 
 

@@ -323,9 +323,9 @@ def reading_refused(shim):
 
 
 def refused_in_threads(shim):
-    """Supersteps in which so many rows change that threads share them (from 16 MiB of registers on): however many threads
-    are asked for the report is the same, and so it is whichever thread is not to be had. Whichever of the last allocations
-    is refused, it is the same too, or the run says that memory was refused and has written nothing."""
+    """Supersteps in which so many rows change that threads share them (from 8 MiB of registers, or 16 MiB of rows, on):
+    however many threads are asked for the report is the same, and so it is whichever thread is not to be had. Whichever of
+    the last allocations is refused, it is the same too, or the run says that memory was refused and has written nothing."""
     chance = random.Random("threads")
     words = ["run", "--log2m", "10", "--limit", "2"]
     four = [*words, "--threads", "4"]

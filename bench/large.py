@@ -35,11 +35,11 @@ COLUMNS = ["graph", "program", "vertices", "records", "supersteps", "reading, s"
 
 def run(words, path, report):
     """This program on a list, with its progress."""
-    return watched([PROGRAM, "run", "--keep", "0", "--progress", *words], path, report, environment(one_heap=True, large="--large" in words))
+    return watched([PROGRAM, "run", "--keep", "0", "--progress", *words], path, report, environment(one_heap=True))
 
 
 def run_other(other, log2m, path, report):
-    return watched([other, "--log2m", log2m, "--large", "--threads", "4"], path, report, environment(one_heap=True, large=True))
+    return watched([other, "--log2m", log2m, "--large", "--threads", "4"], path, report, environment(one_heap=True))
 
 
 def lone_vertices(count, file):

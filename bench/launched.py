@@ -17,19 +17,14 @@ def program():
     return which.stdout.strip()
 
 
-def environment(one_heap=False, large=False):
+def environment(one_heap=False):
     """The environment, with what the launcher exports where it is not set already. One heap for all threads is what it asks
-    for where a run has one partition of one replica and no snapshots; with --large it keeps smaller blocks alone."""
+    for if a run has one partition of one replica."""
     with open(LAUNCHER, encoding="utf-8") as launcher:
         text = launcher.read()
     values = dict(re.findall(r"^(\w+)=(\S+)$", text, re.MULTILINE))
     for name, more in re.findall(r"^ +(\w+)=\$\1(\S+)$", text, re.MULTILINE) if one_heap else []:
         values[name] += more
-    smaller = re.findall(r"--large .* \|\| (\w+)=(\S+)$", text, re.MULTILINE)
-    if large and not smaller:
-        raise SystemExit("bench: what ./hyperball sets for --large could not be read")
-    for name, value in smaller if large else []:
-        values[name] = value
     usual = {}
     for name, value in re.findall(r'^export (\w+)="\$\{\1:-([^}]*)\}"$', text, re.MULTILINE):
         usual[name] = values[value[1:]] if value.startswith("$") else value

@@ -9,7 +9,7 @@ refuses the plan.
 
 With --parts N the vertices are dealt out to N partitions, from 1 to 64, of a thread each: against --parts 1, which is
 what the program does where nothing is said, it shows what the supersteps gain by more processors, and what that costs in
-memory. The graph is read by one thread in any case.
+memory. The graph is read by as many threads as there are processors in any case.
 """
 import argparse
 import os

@@ -7,8 +7,8 @@ use Rattle.ball_model.specs.Change.{changed_at}
 use Rattle.ball_model.specs.PlanValue.{mixing_of, vertices_of}
 use Rattle.ball_model.specs.Job.{Job}
 
--- the accumulator of x at t, where the vertices that pass the test are heard: the maximum in each place of the
--- counter of x at t and of those at t of its predecessors that are heard and changed at t
+-- the accumulator of x at t, if the vertices that pass the test are heard: the maximum in each place of the counter of
+-- x at t and of those at t of its predecessors that are heard and changed at t
 unfoldable pub accumulated_row : Mixing → Graph → ℕ → ℕ → (ℕ → Bool) → List ℕ
 accumulated_row m g x t heard =
     fold (λ acc z. max_each acc (ball_counter m g z t)) (ball_counter m g x t)

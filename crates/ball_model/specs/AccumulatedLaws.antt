@@ -5,12 +5,12 @@ use Rattle.ball_model.specs.Counter.{Mixing, ball_counter, max_each}
 use Rattle.ball_model.specs.Change.{changed_at}
 use Rattle.ball_model.specs.Accumulated.{accumulated_row}
 
--- where nothing is heard, an accumulator is the counter
+-- if nothing is heard, an accumulator is the counter
 abbrev pub AccumulatorStarts : Type 0
 AccumulatorStarts = (m : Mixing) (g : Graph) (x t : ℕ) →
     accumulated_row m g x t (λ _. false) ≡ ball_counter m g x t
 
--- where all is heard, it is the counter at the next superstep
+-- if all is heard, it is the counter at the next superstep
 abbrev pub AccumulatorEnds : Type 0
 AccumulatorEnds = (m : Mixing) (g : Graph) (x t : ℕ) → IsGraph g → x < g.vertices →
     accumulated_row m g x t (λ _. true) ≡ ball_counter m g x (t + 1)

@@ -17,7 +17,7 @@ pub record BatchValue : Type 0 where
   pub changed : ℕ
   pub rows : List (ℕ × List ℕ)
 
--- the registers of vertex z, where the rows have it
+-- the registers of vertex z, if the rows have it
 unfoldable pub find_row : List (ℕ × List ℕ) → ℕ → Option (List ℕ)
 find_row [] z = None
 find_row (row ∷ rest) z = if row.0 == z then Some row.1 else find_row rest z

@@ -22,7 +22,7 @@ pub record Extends (v w : Caller) : Type 0 where
   pub fits : entries_of w.seen ≤ w.limit
 
 -- the caller made this call and no other: it met a history that what it had seen begins, and the call's entry is the
--- last one behind it
+-- one after it
 pub record Called (v : Caller) (e : HistoryEvent) (w : Caller) : Type 0 where
   pub met : History
   pub begins : Begins v.seen met
@@ -41,6 +41,6 @@ IsFull v = entries_of v.seen ≡ v.limit
 abbrev pub HasRoom : Caller → Type 0
 HasRoom v = entries_of v.seen < v.limit
 
--- superstep s is at least that of the content which the caller has seen kept for partition p, where there is one
+-- superstep s is at least that of the content which the caller has seen kept for partition p, if there is one
 abbrev pub IsAsFar : Caller → ℕ → ℕ → Type 0
 IsAsFar v p s = (least : ℕ) → is_kept_from ((board_of v.seen).kept p) least ≡ true → least ≤ s

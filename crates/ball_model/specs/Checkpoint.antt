@@ -10,11 +10,11 @@ use Rattle.ball_model.specs.Batches.{BatchValue, batch_bytes}
 use Rattle.ball_model.specs.PlanValue.{most_parts}
 use Rattle.ball_model.specs.State.{State}
 
--- a mark: 1 where it is set, else 0
+-- a mark: 1 if it is set, else 0
 abbrev pub mark_byte : Bool → ℕ
 mark_byte mark = if mark then 1 else 0
 
--- sources as a number: bit q is set where source q is among them
+-- sources as a number: bit q is set if source q is among them
 unfoldable pub mask_of : List Bool → ℕ
 mask_of sources =
     sum_by (λ q. if slice_index_or sources q false then 2 ^ q else 0) (range_with_len 0 most_parts)
@@ -66,7 +66,7 @@ held_bytes v =
     ++ to_be_bytes w16 (length (kept_batches v.early))
     ++ flat_map early_bytes (kept_batches v.early)
 
--- bytes, and behind them their SHA-256
+-- bytes, and after them their SHA-256
 abbrev pub sealed : List ℕ → List ℕ
 sealed bytes = bytes ++ sha256 bytes
 

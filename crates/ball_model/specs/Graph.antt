@@ -32,8 +32,8 @@ counted_vertices g = filter (λ v. is_counted g v) (range_with_len 0 g.vertices)
 abbrev pub counts_all : Graph → Bool
 counts_all g = length g.counted == g.vertices
 
--- the ends of each edge are vertices, the edges stand once each, ascending by target and then by source, and so do the
--- counted vertices, ascending
+-- the ends of each edge are vertices, each edge is there once, ascending by target and then by source, and so is each
+-- counted vertex, ascending
 pub record IsGraph (g : Graph) : Type 0 where
   pub ends : AllByRecursion (λ e. (e.0 < g.vertices) × (e.1 < g.vertices)) g.edges
   pub listed : g.edges ≡ listed_edges g

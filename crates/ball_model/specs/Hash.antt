@@ -33,6 +33,6 @@ tail_of log2m hash = hash / 2 ^ (32 - log2m) % 2 ^ 32
 unfoldable pub floor_log2 : ℕ → ℕ
 floor_log2 n = greatest (λ j. nat_le (2 ^ j) n) (λ j. j) 32
 
--- the rank: the position, from 1, of the leftmost 1 in the tail, and 33 where the tail is 0
+-- the rank: the position, from 1, of the leftmost 1 in the tail, and 33 if the tail is 0
 unfoldable pub rank_of : ℕ → ℕ → ℕ
 rank_of log2m hash = if tail_of log2m hash == 0 then 33 else 32 - floor_log2 (tail_of log2m hash)

@@ -64,13 +64,13 @@ calls_by n h = events_by n h.calls
 abbrev pub same_name : BatchName → BatchName → Bool
 same_name a b = (a.superstep == b.superstep) && (a.source == b.source) && (a.target == b.target)
 
--- a board of one caller: its floor, whether the batch of a name stands, and the content kept for a partition
+-- a board of one caller: its floor, whether the batch of a name is on it, and the content kept for a partition
 pub record Object : Type 0 where
   pub floor : ℕ
   pub stands : BatchName → Bool
   pub kept : ℕ → Option Holding
 
--- at the start no batch stands, and nothing is kept
+-- at the start no batch is on it, and nothing is kept
 abbrev pub empty : Object
 empty = record { floor = 0; stands = λ _. false; kept = λ _. None }
 
@@ -145,7 +145,7 @@ abbrev pub AreAnswers : Object → List Entry → Type 0
 AreAnswers o [] = Unit {0}
 AreAnswers o (e ∷ es) = IsAnswer o e.event × AreAnswers (after o e.event) es
 
--- a history is legal where each reply is the one that the board gives
+-- a history is legal if each reply is the one that the board gives
 abbrev pub IsLegal : History → Type 0
 IsLegal h = AreAnswers empty h.calls
 
@@ -171,12 +171,12 @@ pub record IsPosted (name : BatchName) (h : History) : Type 0 where
   pub calls : h.calls ≡ before ++ entry by (Post name posted.New) ∷ later
   pub spared : AllByRecursion (λ e. SparesName name e.event) later
 
--- a name that stands was posted and not dropped since
+-- a name that is on the board was posted and not dropped since
 abbrev pub StandingIsPosted : Type 0
 StandingIsPosted = (h : History) (name : BatchName) → (board_of h).stands name ≡ true →
     IsPosted name h
 
--- and a name that was posted and not dropped since stands
+-- and a name that was posted and not dropped since is on the board
 abbrev pub PostedStands : Type 0
 PostedStands = (h : History) (name : BatchName) → IsPosted name h → (board_of h).stands name ≡ true
 
@@ -189,7 +189,7 @@ KeptNeverGoesBack = (h k : History) (p s : ℕ) → IsLegal k → Begins h k →
 abbrev pub FloorNeverGoesDown : Type 0
 FloorNeverGoesDown = (h k : History) → Begins h k → (board_of h).floor ≤ (board_of k).floor
 
--- no name below the floor stands
+-- no name below the floor is on the board
 abbrev pub NothingBelowFloor : Type 0
 NothingBelowFloor = (h : History) (name : BatchName) → IsLegal h → (board_of h).stands name ≡ true →
     (board_of h).floor ≤ name.superstep

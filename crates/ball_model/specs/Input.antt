@@ -47,12 +47,12 @@ unfoldable pub fields : ℕ → List ℕ → List (List ℕ)
 fields d [] = [] ∷ []
 fields d (c ∷ rest) = if c == d then [] ∷ fields d rest else with_first_byte c (fields d rest)
 
--- a line is a record where it is not empty and its first byte is not #
+-- a line is a record if it is not empty and its first byte is not #
 abbrev pub is_record : List ℕ → Bool
 is_record [] = false
 is_record (c ∷ rest) = not (35 == c)
 
--- the records of a text: behind a byte order mark, the fields of each line that is neither empty nor a comment
+-- the records of a text: after a byte order mark, the fields of each line that is neither empty nor a comment
 abbrev pub records : ℕ → List ℕ → List (List (List ℕ))
 records d text = map (fields d) (filter is_record (lines (without_mark text)))
 
@@ -87,8 +87,8 @@ pub record Network : Type 0 where
   pub graph : Graph
   pub labels : List (List ℕ)
 
--- the network of some records: an edge from y to x where some record leads from the label of y to that of x, ascending
--- by target and then by source, and every vertex is counted
+-- the network of some records: an edge from y to x if some record leads from the label of y to that of x, ascending by
+-- target and then by source, and every vertex is counted
 unfoldable pub network_of : List (List (List ℕ)) → Network
 network_of records =
     let labels = labels_of records in
@@ -137,7 +137,7 @@ most_limits = record { vertices = most_vertices; edges = most_records }
 abbrev pub in_force : Limits → Limits
 in_force limits = lower_of limits usual_limits
 
--- where a large input is read, they are never above those of all inputs
+-- if a large input is read, they are never above those of all inputs
 abbrev pub in_force_large : Limits → Limits
 in_force_large limits = lower_of limits most_limits
 
@@ -176,6 +176,6 @@ network_from limits records =
 abbrev pub input_of : ℕ → Limits → List ℕ → Result Network Refusal
 input_of d limits text = network_from (in_force limits) (records d text)
 
--- what it says where a large input is read
+-- what it says if a large input is read
 abbrev pub large_input_of : ℕ → Limits → List ℕ → Result Network Refusal
 large_input_of d limits text = network_from (in_force_large limits) (records d text)

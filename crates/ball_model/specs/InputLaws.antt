@@ -7,7 +7,7 @@ use Rattle.ball_model.specs.Input.{Limits, Network, has_mark, lines, network_fro
 use Rattle.ball_model.specs.Counting.{named_vertices, counted_network}
 use Rattle.ball_model.specs.Sections.{sections_of}
 
--- all are counted exactly where each vertex is
+-- all are counted exactly if each vertex is
 abbrev pub AllAreCounted : Type 0
 AllAreCounted = (g : Graph) → IsGraph g →
     IsTrue (counts_all g) ↔ ((v : ℕ) → v < g.vertices → IsTrue (is_counted g v))
@@ -17,7 +17,7 @@ abbrev pub IsNamed : List (List (List ℕ)) → List ℕ → Type 0
 IsNamed records label =
     (i : ℕ) × (i < length records) × (slice_index_or records i [] ≡ label ∷ [])
 
--- by a list a vertex is counted exactly where some record is its label
+-- by a list a vertex is counted exactly if some record is its label
 abbrev pub NamedAreCounted : Type 0
 NamedAreCounted = (network : Network) (records : List (List (List ℕ))) (v : ℕ) →
     v < length network.labels →
@@ -63,7 +63,7 @@ abbrev pub MarkChangesNothing : Type 0
 MarkChangesNothing = (d : ℕ) (text : List ℕ) → has_mark text ≡ false →
     records d (239 ∷ 187 ∷ 191 ∷ text) ≡ records d text
 
--- a line begins behind these bytes: at the start, or behind an LF
+-- a line begins after these bytes: at the start, or after an LF
 abbrev pub LineBegins : List ℕ → Type 0
 LineBegins before = (before ≡ []) ⊎ ((start : List ℕ) × (before ≡ start ++ 10 ∷ []))
 
@@ -72,7 +72,7 @@ abbrev pub LineEnds : List ℕ → List ℕ → Type 0
 LineEnds rest after =
     (rest ≡ 10 ∷ after) ⊎ ((rest ≡ 13 ∷ 10 ∷ after) ⊎ ((rest ≡ []) × (after ≡ [])))
 
--- a line of exactly %% stands between these
+-- a line of exactly %% is between these
 pub record HasMark (input before after : List ℕ) : Type 0 where
   pub begins : LineBegins before
   pub rest : List ℕ
@@ -84,7 +84,7 @@ abbrev pub MarkDivides : Type 0
 MarkDivides = (input : List ℕ) (sections : List ℕ × List ℕ) →
     sections_of input ≡ Some sections → HasMark input sections.0 sections.1
 
--- where such a line stands there are sections, and the first of them ends no later than there
+-- if there is such a line there are sections, and the first of them ends no later than there
 abbrev pub FirstMarkDivides : Type 0
 FirstMarkDivides = (input before after : List ℕ) → HasMark input before after →
     (sections : List ℕ × List ℕ) × (sections_of input ≡ Some sections)

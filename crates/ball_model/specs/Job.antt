@@ -1,4 +1,4 @@
--- Jobs, and what a partition is told of its job (Pregel 2010).
+-- Jobs, and what a partition has of its job (Pregel 2010).
 use Rattle.std.specs.Prelude.{◌≡◌, ℕ, ◌%◌, ◌^◌, ◌<◌, Bool, ◌==◌, ◌&&◌, List, [], ◌∷◌, ◌++◌, map, length, codes, if◌then◌else◌}
 use Rattle.std.specs.List.{list_any, range_with_len, sum_by, flat_map, All}
 use Rattle.std.specs.Int.{w16, w32, w64, to_be_bytes}
@@ -36,7 +36,7 @@ first_magic corrected = if corrected then codes "HBC1" else codes "HBJ1"
 abbrev pub second_magic : Bool → List ℕ
 second_magic corrected = if corrected then codes "HBC2" else codes "HBJ2"
 
--- what the job digest is made of: the first form where every vertex is counted, else the second, with the counted ones
+-- what the job digest is made of: the first form if every vertex is counted, else the second, with the counted ones
 unfoldable pub digest_bytes : PlanValue → Graph → List ℕ
 digest_bytes plan g =
     if counts_all g then first_magic plan.corrected ++ job_bytes plan g
@@ -57,12 +57,12 @@ pub record IsJob (j : Job) : Type 0 where
 unfoldable pub feeds_into : Graph → ℕ → ℕ → ℕ → Bool
 feeds_into g parts y r = list_any (λ e. (e.0 == y) && (e.1 % parts == r)) g.edges
 
--- the feed mask of y: bit r is set where y has an edge into partition r
+-- the feed mask of y: bit r is set if y has an edge into partition r
 unfoldable pub feed_mask : Graph → ℕ → ℕ → ℕ
 feed_mask g parts y =
     sum_by (λ r. if feeds_into g parts y r then 2 ^ r else 0) (range_with_len 0 parts)
 
--- what a partition is told: its plan and number, and of each of its vertices the predecessors, the feed mask and
+-- what a partition has of its job: its plan and number, and of each of its vertices the predecessors, the feed mask and
 -- whether it is counted
 pub record PartValue : Type 0 where
   pub plan : PlanValue

@@ -108,6 +108,6 @@ pub record SameShown (a b : State) : Type 0 where
   pub tallies : a.tallies ≡ b.tallies
   pub sums : a.sums ≡ b.sums
 
--- the further of two replicas, and the first where they are at one superstep
+-- the further of two replicas, and the first if they are at one superstep
 abbrev pub further : State → State → State
 further a b = if nat_lt a.superstep b.superstep then b else a

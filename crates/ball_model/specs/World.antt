@@ -34,7 +34,7 @@ pub record World : Type 0 where
   pub sent : List BatchName
   pub copies : List Holding
 
--- a node of partition p at the start, where it has kept nothing
+-- a node of partition p at the start: it has kept nothing
 abbrev pub start_node : PlanValue → ℕ → Node
 start_node plan p = record { content = start_holding plan p; kept = None }
 
@@ -50,7 +50,7 @@ start_world plan replicas = record {
 abbrev pub nodes_of : List (List Node) → ℕ → List Node
 nodes_of nodes p = slice_index_or nodes p []
 
--- a node, where there is one
+-- a node, if there is one
 unfoldable pub node_at : World → NodeId → Option Node
 node_at w id = slice_get (nodes_of w.nodes id.part) id.replica
 
@@ -87,7 +87,7 @@ name_to n q = record {
   target = q;
 }
 
--- the answer where that batch is sent as the message of that number
+-- the answer if that batch is sent as the message of that number
 abbrev pub sent_answer : ℕ → BatchValue → Answer
 sent_answer message b = answer.Sent message b.name b.changed (length b.rows)
 
@@ -145,7 +145,7 @@ copy_at w n =
       record w { copies = w.copies ++ n.content ∷ [] },
     )
 
--- the content is joined with that of a copy, where the two are of one partition
+-- the content is joined with that of a copy, if the two are of one partition
 abbrev pub recover_when : World → NodeId → Node → Holding → Result (Unit {0}) MergeError → Outcome
 recover_when w id n c (Ok u) =
     Ok (answer.Merged (join_of n.content c).superstep, with_content w id n (join_of n.content c))

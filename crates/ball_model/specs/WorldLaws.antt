@@ -16,7 +16,7 @@ pub record IsWorldNode (j : Job) (p : ℕ) (n : Node) : Type 0 where
   pub content : IsHeldBy j p n.content
   pub kept : IfSome n.kept (IsHeldBy j p)
 
--- a world of the job: its nodes and copies have contents of the job, and what was sent may be told
+-- a world of the job: its nodes and copies have contents of the job, and each message has a name of the job's plan
 pub record IsWorld (j : Job) (w : World) : Type 0 where
   pub nodes : (id : NodeId) → IfSome (node_at w id) (IsWorldNode j id.part)
   pub sent : (m : ℕ) → IfSome (slice_get w.sent m) (IsName j.plan)
@@ -43,14 +43,14 @@ SparesMessage m e = ⊤
 abbrev pub without_message : ℕ → World → World
 without_message m w = record w { sent = remove w.sent m }
 
--- and the event there: the messages behind m have numbers that are one less
+-- and the event there: the messages after m have numbers that are one less
 abbrev pub event_without : ℕ → Event → Event
 event_without m (event.Deliver other id) =
     event.Deliver (if nat_lt m other then other - 1 else other) id
 event_without m e = e
 
--- a loss: a message that is delivered to no node may stand or be gone, whatever else happens: each node and each copy is
--- the same, and so are the other messages
+-- a loss: a message that is delivered to no node may be there or be gone, whatever else happens: each node and each
+-- copy is the same, and so are the other messages
 abbrev pub LossLeavesContents : Type 0
 LossLeavesContents = (j : Job) (w : World) (m : ℕ) (es : List Event) → m < length w.sent →
     AllByRecursion (SparesMessage m) es →

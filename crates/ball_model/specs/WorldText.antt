@@ -104,7 +104,7 @@ with_command number (Some e) (Ok es) = Ok (e ∷ es)
 with_command number (Some e) (Err line) = Err line
 
 -- the events of lines, of which the first has that number, or the number of the first line that is no command; a line
--- that is empty or begins with # is skipped, and between words stands one space
+-- that is empty or begins with # is skipped, and between words is one space
 unfoldable pub events_from : ℕ → List (List ℕ) → Result (List Event) ℕ
 events_from number [] = Ok []
 events_from number (line ∷ rest) =

@@ -9,9 +9,9 @@ ghost use Rattle.ball_model.specs.History.{LastIsAnswer};
 pub enum Posted {
     /// It is of a superstep below the floor; nothing is changed.
     Old,
-    /// A batch of its name stands already; nothing is changed.
+    /// A batch of its name is on the board already; nothing is changed.
     Known,
-    /// It stands from now on.
+    /// It is on the board from now on.
     New,
 }
 
@@ -24,7 +24,7 @@ pub enum Kept {
     Behind,
 }
 
-/// A name stands exactly where it was posted, answered [`New`](Posted::New), and not dropped since.
+/// A name is on the board exactly if it was posted, answered [`New`](Posted::New), and not dropped since.
 pub fn standing_is_posted()
     ensures posted { StandingIsPosted }
     ensures stands { PostedStands }
@@ -36,7 +36,7 @@ pub fn nothing_goes_back()
     ensures floor { FloorNeverGoesDown }
 {}
 
-/// No name below the floor stands.
+/// No name below the floor is on the board.
 pub fn floor_bounds_names()
     ensures { NothingBelowFloor }
 {}

@@ -51,7 +51,7 @@ pub fn counter_counts_paths()
     ensures least { CounterIsLeastBound }
 {}
 
-/// At superstep 0 a vertex is changed exactly where it is counted, which is where its counter is not empty.
+/// At superstep 0 a vertex is changed exactly if it is counted, and exactly if its counter is not empty.
 pub fn start_is_counted()
     ensures counted { StartIsCounted }
     ensures filled { StartIsNotEmpty }
@@ -84,13 +84,13 @@ pub fn end_is_least()
     ensures reached { EndIsReached }
 {}
 
-/// An estimate, corrected for small sets or not, does not fall where no register falls, and is below 2^63.
+/// An estimate, corrected for small sets or not, does not fall if no register falls, and is below 2^63.
 pub fn estimate_grows()
     ensures grows { EstimateGrows }
     ensures fits { EstimateFits }
 {}
 
-/// Where no place is taken nothing was drawn, where one is taken one was, and each further place adds its wait.
+/// If no place is taken nothing was drawn, if one is taken one was, and each further place adds its wait.
 pub fn draws_are_waits()
     ensures none { NoneIsNothing }
     ensures one { OneIsOne }
@@ -128,12 +128,12 @@ pub fn join_is_a_join()
     ensures union { JoinIsUnion }
 {}
 
-/// All vertices are counted exactly where each one is.
+/// All vertices are counted exactly if each one is.
 pub fn all_are_counted()
     ensures { AllAreCounted }
 {}
 
-/// By a list a vertex is counted exactly where some record is its label, so a list of all labels counts every vertex.
+/// By a list a vertex is counted exactly if some record is its label, so a list of all labels counts every vertex.
 pub fn named_are_counted()
     ensures named { NamedAreCounted }
     ensures all { AllNamedAreAll }
@@ -158,7 +158,7 @@ pub fn mark_is_skipped()
     ensures none { MarkChangesNothing }
 {}
 
-/// The sections of an input are what stands before and after its first line of exactly `%%`.
+/// The sections of an input are what is before and after its first line of exactly `%%`.
 pub fn first_mark_divides()
     ensures divides { MarkDivides }
     ensures first { FirstMarkDivides }

@@ -58,8 +58,8 @@ pub fn mix(seed: u64, v: u32) -> u64
 
 /// The register that a hash falls into, of 2^log2m, and its rank there, from 1 to 33.
 ///
-/// The register is the top `log2m` bits; the rank is the position, from 1, of the leftmost 1 among the next 32
-/// bits, and 33 where all of them are 0 (HyperLogLog 2007).
+/// The register is the top `log2m` bits; the rank is the position, from 1, of the leftmost 1 among the next 32 bits,
+/// and 33 if all of them are 0 (HyperLogLog 2007).
 pub fn place(log2m: u8, hash: u64) -> (u16, u8)
     requires low { 4 ≤ log2m }
     requires high { log2m ≤ 10 }

@@ -84,8 +84,8 @@ impl<'a> CountedRead for MemReader<'a> {
     }
 }
 
-/// A writer into memory with room for some bytes, which is all taken when it is made. It fails where it is full, and
-/// a call chosen in advance and all later ones fail. A flush is no call and never fails.
+/// A writer into memory with room for some bytes, which is all taken when it is made. It fails if it is full, and a
+/// call chosen in advance and all later ones fail. A flush is no call and never fails.
 #[derive(Drop)]
 pub struct MemWriter {
     bytes: Vec<u8>,
@@ -97,7 +97,7 @@ pub struct MemWriter {
 
 impl MemWriter {
     /// A writer with room for `room` bytes whose call `fails_at`, counted from 1, and all later ones fail; None: only
-    /// where it is full does a call fail.
+    /// if it is full does a call fail.
     pub fn with_room(
         alloc: Global,
         room: usize,

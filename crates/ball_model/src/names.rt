@@ -10,16 +10,16 @@ use thiserror::Error;
 /// Names ascend by superstep, then by source, then by target.
 #[derive(Clone, Copy, Debug, PartialEq, Eq, PartialOrd, Ord)]
 pub struct BatchName {
-    /// The superstep whose changes are told, from 0 up to the plan's limit.
+    /// The superstep whose changes the batch has, from 0 up to the plan's limit.
     pub superstep: u32,
     /// The number of the partition that tells, from 0 on.
     pub source: u16,
-    /// The number of the partition that is told, from 0 on.
+    /// The number of the partition that it is sent to, from 0 on.
     pub target: u16,
 }
 
 impl BatchName {
-    /// Whether the name stands before the other: by superstep, then by source, then by target.
+    /// Whether the name is before the other: by superstep, then by source, then by target.
     ///
     /// For a library's user: the program does not call it.
     pub fn is_before(&self, other: &BatchName) -> bool
@@ -39,7 +39,7 @@ pub struct NodeId {
 }
 
 impl NodeId {
-    /// Whether the node stands before the other: by partition, then by replica.
+    /// Whether the node is before the other: by partition, then by replica.
     ///
     /// For a library's user: the program does not call it.
     pub fn is_before(&self, other: &NodeId) -> bool

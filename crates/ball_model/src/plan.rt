@@ -44,7 +44,7 @@ pub enum PlanError {
     /// The greatest superstep is 0, or above 4096.
     #[error("limit is not from 1 to 4096")]
     Limit,
-    /// There are more than 2^24 vertices, or more than 2^31 where a large plan is asked for.
+    /// There are more than 2^24 vertices, or more than 2^31 if a large plan is asked for.
     #[error("too many vertices")]
     Vertices,
 }

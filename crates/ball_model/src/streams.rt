@@ -1,7 +1,7 @@
 //! Streams that tell how many of their calls failed.
 //!
-//! No contract can say what a file, a pipe or a terminal gives or takes. But a program can say that it answers
-//! 'cannot be read' only where a call of its reader really failed: by a reader that counts its failed calls.
+//! No contract can say what a file, a pipe or a terminal gives or takes. But a program can say that it answers 'cannot
+//! be read' only if a call of its reader really failed: by a reader that counts its failed calls.
 
 ghost use Rattle.std.specs.Prelude.{◌≡◌, ◌≢◌, ℕ, ◌+◌, ◌-◌, ◌^◌, min, OnOk, OnErr, ◌<◌, ◌≤◌, ◌⊎◌};
 ghost use Rattle.std.specs.Prelude.{IfOk, IfSome, IfNone, Option, None, Some, length, true, false};
@@ -22,13 +22,13 @@ pub trait CountedRead: Read {
     // How many of the next calls are sure to go well. None: all.
     ghost sure_calls: { Self → Option ℕ };
 
-    /// How many calls failed, or `u64::MAX` where they are more.
+    /// How many calls failed, or `u64::MAX` if they are more.
     fn failures(&self) -> u64
         ensures { result ≡ min (failed_calls self.now) (2 ^ 64 - 1) };
 
-    /// Reads some bytes into the front of `buf`, and tells their number; None where the call failed.
+    /// Reads some bytes into the front of `buf`, and tells their number; None if the call failed.
     ///
-    /// The number is 0 only at the end of the input, or where `buf` is empty.
+    /// The number is 0 only at the end of the input, or if `buf` is empty.
     fn get(&mut self, buf: &mut [u8]) -> Option<usize>
         ensures within { IfSome result (λ n. n ≤ length buf.new) }
         ensures bytes { Gets (Self.remaining self.old) (Self.remaining self.new) result buf.new }
@@ -44,17 +44,17 @@ pub trait CountedRead: Read {
 pub trait CountedWrite: Write {
     ghost failed_calls: { Self → ℕ };
 
-    // How many of the next calls are sure to go well where there is room. None: all.
+    // How many of the next calls are sure to go well if there is room. None: all.
     ghost sure_calls: { Self → Option ℕ };
 
     // How many bytes there is room for, as far as that is sure.
     ghost room: { Self → ℕ };
 
-    /// How many calls failed, or `u64::MAX` where they are more.
+    /// How many calls failed, or `u64::MAX` if they are more.
     fn failures(&self) -> u64
         ensures { result ≡ min (failed_calls self.now) (2 ^ 64 - 1) };
 
-    /// Writes a first piece of `bytes`, and tells its length, which is not 0; None where the call failed.
+    /// Writes a first piece of `bytes`, and tells its length, which is not 0; None if the call failed.
     fn put(&mut self, bytes: &[u8]) -> Option<usize>
         requires { 0 < length bytes.now }
         ensures some { IfSome result (λ n. 0 < n) }
@@ -106,7 +106,7 @@ impl Number {
     }
 }
 
-// How many calls failed. A clause sees the exact number; the one that is told stops at the greatest u64.
+// How many calls failed. A clause sees the exact number; the one that is answered stops at the greatest u64.
 #[derive(Drop)]
 pub(crate) struct FailedCalls {
     told: u64,
@@ -140,7 +140,7 @@ impl FailedCalls {
         self.exact = Number::after(&self.exact);
     }
 
-    // The number, or `u64::MAX` where it is greater.
+    // The number, or `u64::MAX` if it is greater.
     pub(crate) fn count(&self) -> u64
         ensures { result ≡ min self.now (2 ^ 64 - 1) }
     {
@@ -203,7 +203,7 @@ impl<R: Read + Drop> CountedRead for CountingReader<R> {
 
 /// A writer that counts the failed calls of the one inside.
 ///
-/// A write of no bytes is no failed call, and a flush is one only where it answers an error.
+/// A write of no bytes is no failed call, and a flush is one only if it answers an error.
 #[derive(Drop)]
 pub struct CountingWriter<W: Drop> {
     inner: W,
@@ -293,7 +293,7 @@ impl<W: Write + Drop> CountedWrite for CountingWriter<W> {
     }
 }
 
-/// Writes all bytes and answers true, or answers false where a call failed; nothing is tried again.
+/// Writes all bytes and answers true, or answers false if a call failed; nothing is tried again.
 pub fn put_all<W: CountedWrite>(writer: &mut W, bytes: &[u8]) -> bool
     ensures done { result ≡ true →
         Appends (W.contents writer.old) (W.contents writer.new) bytes.now }
@@ -332,7 +332,7 @@ pub enum Filled {
 
 /// Reads until the buffer is full or the input is at its end, or up to the first failed call.
 ///
-/// Nothing is read where the buffer is empty, and nothing after the end was seen.
+/// Nothing is read if the buffer is empty, and nothing after the end was seen.
 pub fn fill<R: CountedRead>(reader: &mut R, buf: &mut [u8]) -> Filled
     ensures full { result ≡ Filled.Full →
         Consumes (R.remaining reader.old) (R.remaining reader.new) buf.new }

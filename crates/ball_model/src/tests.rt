@@ -37,7 +37,7 @@ fn least_and_greatest_seed_and_vertex(rt: HostRuntime) {
     );
 }
 
-// Where tails of zeros lead, up to the last one, and the hash of 0 among 128 registers. The 33rd bit behind the index is
+// Where tails of zeros lead, up to the last one, and the hash of 0 among 128 registers. The 33rd bit after the index is
 // set in the first two, and does not count.
 fn places_of_tails() -> [(u16, u8); 6] {
     [
@@ -334,7 +334,7 @@ fn flushes_after_a_failure() -> (bool, u64, bool, u64) {
     (first, then, writer.flush().is_ok(), writer.failures())
 }
 
-// A call that fails is not tried again in secret: its failure is told, and the next call goes well.
+// A call that fails is not tried again in secret: its failure is answered, and the next call goes well.
 #[test]
 fn a_failed_call_is_told(rt: HostRuntime) {
     assert_eq!(rt;
@@ -380,7 +380,7 @@ fn failed_calls_are_counted(rt: HostRuntime) {
     );
 }
 
-// Whether four bytes are put in as many calls, and one more where the fifth call fails, and how many calls failed.
+// Whether four bytes are put in as many calls, and one more if the fifth call fails, and how many calls failed.
 fn puts_four() -> (bool, bool, u64) {
     let mut writer = CountingWriter::new(failing_from(5));
     let four = put_all(&mut writer, b"abcd");
@@ -423,7 +423,8 @@ fn fills(fails_at: Option<u64>) -> ([Filled; 3], u64) {
     (told, reader.failures())
 }
 
-// A buffer of four that is filled a byte a call where call `fails_at` fails, its two next bytes, and the failures.
+// A buffer of four is filled a byte a call by a reader whose call `fails_at` fails, and then one of none: what came of
+// both, and the failures.
 fn fills_slowly(fails_at: u64) -> (Filled, Filled, u64) {
     let mut reader = CountingReader::new(failing_from(fails_at));
     let mut place = [0u8; 4];
@@ -440,7 +441,7 @@ fn ends() -> (Filled, [u8; 4]) {
     (told, place)
 }
 
-// Whether seven bytes fill buffers, where no call fails, the third and the second.
+// Whether seven bytes fill the buffers so: if no call fails, if the third does, and if the second does.
 fn seven_are_filled() -> bool {
     let wanted = [
         ([Filled::Full, Filled::Full, Filled::Ended { count: 0 }], 0),

@@ -28,7 +28,7 @@ pub enum Event {
     Close { node: NodeId },
     /// The node keeps what it has, in the place of what it kept before.
     Keep { node: NodeId },
-    /// The node goes back to what it kept, or to the start where it kept nothing.
+    /// The node goes back to what it kept, or to the start if it kept nothing.
     Restart { node: NodeId },
     /// A copy is made of what the node has.
     Copy { node: NodeId },
@@ -131,8 +131,7 @@ pub fn runs_stay_worlds()
     ensures loss { LossLeavesContents }
 {}
 
-/// An event changes nothing at any other node, and takes its own node to an earlier superstep only where it is a
-/// restart.
+/// An event changes nothing at any other node, and takes its own node to an earlier superstep only if it is a restart.
 pub fn nodes_stand_alone()
     ensures others { OthersStay }
     ensures back { OnlyRestartGoesBack }

@@ -101,7 +101,7 @@ batch_at plan bytes = do
   head ← check_at plan bytes
   Ok (batch_from plan head (first_rows (2 ^ plan.log2m) head.count (drop HEADER_LEN bytes)))
 
--- the answer is the one that is due, or, where that is a batch, memory ran out
+-- the answer is the one that is due, or, if that is a batch, memory ran out
 abbrev pub GivesBatchOrMemory : Result BatchValue BatchError → Result BatchValue BatchError → Type 0
 GivesBatchOrMemory (Ok b) due = Ok b ≡ due
 GivesBatchOrMemory (Err errors.Memory) due = IsOk due

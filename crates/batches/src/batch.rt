@@ -115,7 +115,7 @@ impl Batch {
 
     /// Adds the row of a vertex of the source, above those of the rows so far: 2^log2m registers of at most 33.
     ///
-    /// There may be as many rows as changed vertices. Where memory is refused the batch stays as it was.
+    /// There may be as many rows as changed vertices. If memory is refused the batch stays as it was.
     pub fn push(&mut self, id: u32, registers: &[u8]) -> Result<(), AllocError>
         requires row { IsRow self.old.plan self.old.name.source (id, registers.now) }
         requires above { All (λ before. before < id) (ids_of self.old.rows) }
@@ -190,7 +190,8 @@ impl Batch {
         row_in(&self.registers, self.plan.width(), i as usize)
     }
 
-    /// The 2^log2m registers of a vertex, where it has a row. It takes the logarithm of the number of rows.
+    /// The 2^log2m registers of a vertex, if it has a row. It takes the logarithm of the number of rows. For a
+    /// library's user: the program does not call it.
     pub fn find(&self, id: u32) -> Option<&[u8]>
         ensures value { option_map (λ r. r.now) result ≡ find_row self.now.rows id }
         ensures width { IfSome result (λ r. length r.now ≡ 2 ^ self.now.plan.log2m) }
@@ -255,8 +256,8 @@ impl Batch {
     ///
     /// [`Short`](BatchError::Short) comes first for the fixed fields, and once more, after
     /// [`Count`](BatchError::Count), for the rows. The rows are checked one after the other, each for
-    /// [`Vertex`](BatchError::Vertex), [`Order`](BatchError::Order) and [`Rank`](BatchError::Rank). Memory is asked
-    /// for last: [`Memory`](BatchError::Memory) is answered only where the bytes spell a batch of the plan.
+    /// [`Vertex`](BatchError::Vertex), [`Order`](BatchError::Order) and [`Rank`](BatchError::Rank). Memory is asked for
+    /// last: [`Memory`](BatchError::Memory) is answered only if the bytes spell a batch of the plan.
     pub fn decode(alloc: Global, plan: &Plan, bytes: &[u8]) -> Result<Batch, BatchError>
         // What is read is a batch of the plan with these bytes.
         ensures spelled { IfOk result (λ b. bytes.now ≡ batch_bytes b) }
@@ -265,7 +266,7 @@ impl Batch {
         // Each batch of the plan with these bytes is what is read.
         ensures only { (b : BatchValue) → IsBatch b → AgreesButJob plan.now b.plan
             → bytes.now ≡ batch_bytes b → GivesBatchOrMemory result (Ok b) }
-        // Which refusal it is; memory is wanting only where bytes and plan give a batch.
+        // Which refusal it is; memory is wanting only if bytes and plan give a batch.
         ensures exact { GivesBatchOrMemory result (batch_at plan.now bytes.now) }
     {
         let header = check(plan, bytes)?;

@@ -39,7 +39,7 @@ pub enum BatchError {
     /// A register is above 33.
     #[error("a register is too great")]
     Rank,
-    /// Memory was refused. It is told only where the bytes pass all checks.
+    /// Memory was refused. It is answered only if the bytes pass all checks.
     #[error("out of memory")]
     Memory,
 }

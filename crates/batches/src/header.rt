@@ -20,7 +20,7 @@ pub const VERSION: u8 = 1;
 /// How many bytes the fixed fields have.
 pub const HEADER_LEN: usize = 54;
 
-/// The fixed fields, as they stand.
+/// The fixed fields as the bytes have them, not checked yet.
 #[derive(Clone, Copy)]
 pub struct Header {
     /// [`MAGIC`] in every batch.
@@ -119,7 +119,7 @@ pub fn put_u32(out: &mut Vec<u8>, number: u32) -> Result<(), AllocError>
     out.extend_from_slice(&field)
 }
 
-// A field stands at its place, behind what stands before it.
+// A field is put at its place, after what is before it.
 fn set_field(bytes: &mut [u8], at: usize, field: &[u8])
     requires { at + length field.now ≤ length bytes.old }
     ensures { take (at + length field.now) bytes.new ≡ take at bytes.old ++ field.now }

@@ -47,7 +47,7 @@ fn copied(alloc: Global, table: &[u8], width: usize, places: &[u32]) -> Result<V
     Ok(own)
 }
 
-// Those rows and one more, whose vertex is appended to the vertices. They stay as they are where memory is refused.
+// Those rows and one more, whose vertex is appended to the vertices. They stay as they are if memory is refused.
 fn copied_and(
     ids: &mut Vec<u32>,
     table: &[u8],
@@ -94,7 +94,7 @@ pub fn push_onto(
     }
 }
 
-/// Takes room for so many more registers at once, where they are the rows' own.
+/// Takes room for so many more registers at once, if they are the rows' own.
 pub fn reserve(registers: &mut Registers, more: usize) -> Result<(), AllocError>
     ensures same { (m : ℕ) → flat_of m registers.new ≡ flat_of m registers.old }
     ensures lie { (m : ℕ) → LieIn m registers.old → LieIn m registers.new }

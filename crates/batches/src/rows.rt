@@ -119,7 +119,7 @@ pub fn push_row(
     Ok(())
 }
 
-// Reads rows of `width` registers behind none: their vertices and their registers.
+// Reads rows of `width` registers, with none before them: their vertices and their registers.
 fn read_each(
     ids: &mut Vec<u32>,
     registers: &mut Vec<u8>,

@@ -202,7 +202,7 @@ fn is_kept(alloc: Global, plan: &Plan, bytes: &[u8]) -> Result<bool, BatchError>
 /// Places and bytes there that pass: limits themselves.
 static LIMITS: [(usize, u8); 4] = [(8, 0x10), (57, 2), (72, 33), (13, 0)];
 
-/// The first place of that table where the bytes with that byte are not read and kept.
+/// The first place of that table at which the bytes with that byte are not read and kept.
 fn first_not_kept(alloc: Global, plan: &Plan) -> Option<usize> {
     for (place, byte) in &LIMITS {
         if is_kept(alloc, plan, &with(&[(*place, *byte)])) != Ok(true) {

@@ -48,7 +48,7 @@ history_of b =
       calls = calls_in b.calls;
     }
 
--- the map has the names that stand, each with its true batch
+-- the map has the names on the board, each with its true batch
 abbrev pub HasStanding : {A : Type 0} → (A → BatchValue) → Job → Object → (BatchName → Option A) →
     Type 0
 HasStanding value j o find = (name : BatchName) →
@@ -84,12 +84,12 @@ IsBook b =
     BookHas arc_value arc_value (history_of b) b.calls.entries b.floor (get by_name b.standing)
     b.kept.items
 
--- the reply to a post: whether its name is below the floor, and whether it stands
+-- the reply to a post: whether its name is below the floor, and whether it is on the board
 abbrev pub reply_to : Bool → Bool → Posted
 reply_to is_old is_known =
     if is_old then posted.Old else (if is_known then posted.Known else posted.New)
 
--- where the reply is New, the batch stands at its name; all else stands as before
+-- if the reply is New, the batch is at its name; all else is as before
 abbrev pub IsPut : {A : Type 0} → Posted → BatchName → A → (BatchName → Option A) →
     (BatchName → Option A) → Type 0
 IsPut reply name batch old new = (n : BatchName) →

@@ -13,7 +13,7 @@ use Rattle.ball_model.specs.History.{HistoryEvent, Fetch, Recall, History, entry
 abbrev pub by_name : BatchName → BatchName → Ordering
 by_name = (name_order.ghosts).cmp
 
--- one entry more, where there is room for it
+-- one entry more, if there is room for it
 abbrev pub IsNoted : ℕ → ℕ → HistoryEvent → History → History → Type 0
 IsNoted limit by e old new = (new ≡ with_entry old (entry by e)) × (entries_of old < limit)
 
@@ -33,15 +33,15 @@ abbrev pub IsNext : ℕ → ℕ → History → History → Type 0
 IsNext limit by old new = IsLegal new
     × ((new ≡ old) ⊎ ((e : HistoryEvent) × IsNoted limit by e old new))
 
--- the content that is displaced where another one is kept, and where it is not
+-- the content that is displaced if another one is kept, and if it is not
 abbrev pub displaced_by : Kept → Option Holding → Option Holding
 displaced_by reply kept = if is_new_keep reply then kept else None
 
--- the name stands, and is of a superstep below s
+-- the name is on the board, and is of a superstep below s
 abbrev pub is_dropped : Object → ℕ → BatchName → Bool
 is_dropped o s name = o.stands name && nat_lt name.superstep s
 
--- these are the true batches of the names that stood and are of supersteps below s
+-- these are the true batches of the names that were on the board and are of supersteps below s
 abbrev pub AreDropped : {A : Type 0} → (A → BatchValue) → ℕ → History →
     (BatchName → Option A) → Type 0
 AreDropped value s old find = (name : BatchName) →

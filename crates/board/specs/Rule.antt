@@ -15,7 +15,7 @@ total f (v ∷ vs) = f v + total f vs
 abbrev pub room_of : View → ℕ
 room_of v = v.room
 
--- 1 where the seat has a ticket
+-- 1 if the seat has a ticket
 abbrev pub tickets_of : View → ℕ
 tickets_of v = min v.stage 1
 
@@ -46,7 +46,8 @@ pub record FitsLog (limit : ℕ) (log : History) (next serving : ℕ) (v : View)
   pub told : (t : EndedSeat) → v.told ≡ Some t →
       Begins t.seen log × (calls_by t.number log ≡ calls_by t.number t.seen) × IsNotOf t.number v
 
--- two seats have no number in common, and no ticket; the number that one was told of is none of the other's
+-- two seats have no number in common, and no ticket; the number of the ended seat that one knows of is none of the
+-- other's
 pub record AreApart (v w : View) : Type 0 where
   pub numbers : (v.number + v.room ≤ w.number) ⊎ (w.number + w.room ≤ v.number)
   pub tickets : 0 < v.stage → 0 < w.stage → v.ticket ≢ w.ticket
@@ -155,7 +156,7 @@ WroteLength st m n m' = (log : History) → m.1 ≡ (0, Some log) ∷ [] → m' 
 abbrev pub RaisedServing : TableStep → SeatHas → ℕ → SeatHas → Type 0
 RaisedServing st m n m' = m' ≡ (after_turn m.0, [])
 
--- a look at the length shows the whole history, with what was told
+-- a look at the length shows the whole history, and what the seat knew of an ended one is part of it
 abbrev pub at_look : View → History → View
 at_look v log =
     record {
@@ -168,7 +169,7 @@ at_look v log =
       limit = v.limit;
     }
 
--- what the seat was told of another begins the history, where the other has made no call since
+-- what the seat knows that an ended one had seen begins the history, in which that one has made no call since
 abbrev pub HasNews : View → History → Type 0
 HasNews v log = (t : EndedSeat) → v.told ≡ Some t →
     Begins t.seen log × (calls_by t.number log ≡ calls_by t.number t.seen)
@@ -206,7 +207,7 @@ newcomer v =
       limit = v.limit;
     }
 
--- the seat is told of what another has seen, which ends
+-- the seat gets to know what another has seen, which ends
 abbrev pub with_news : View → View → View
 with_news v w = record {
   number = v.number;

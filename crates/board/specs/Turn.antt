@@ -17,7 +17,7 @@ IsAtTable seat table = IsSized table × (seat ≡ table)
 abbrev pub IsIdle : SeatHas → Type 0
 IsIdle m = (m.0.stage ≡ 0) × (0 < m.0.room) × (m.1 ≡ [])
 
--- the seat's number, those that it may give, what it was told and its limit are as they were
+-- the seat's number, those that it may give, what it knows of an ended seat and its limit are as they were
 abbrev pub IsSameSeat : View → View → Type 0
 IsSameSeat v w =
     (w.number ≡ v.number) × (w.room ≡ v.room) × (w.told ≡ v.told) × (w.limit ≡ v.limit)

@@ -41,8 +41,8 @@ const NUMBERS: u64 = 1 << 63;
 
 /// A history that threads share.
 ///
-/// Each call but [`length`](Board::length) and [`join`](Board::join) waits for its turn. Where it answers an error it
-/// has added no entry, and its seat has seen the whole history.
+/// Each call but [`length`](Board::length) and [`join`](Board::join) waits for its turn. If it answers an error it has
+/// added no entry, and its seat has seen the whole history.
 #[derive(Drop)]
 pub struct Board {
     pub(crate) table: BoardTable,
@@ -133,11 +133,11 @@ impl Board {
         look_at_length(&self.table, &mut seat.grant.pass);
     }
 
-    /// Finds the batch of a name: None exactly where the name does not stand, and then no entry is added.
+    /// Finds the batch of a name: None exactly if the name is not there, and then no entry is added.
     ///
-    /// [`BookFull`](BoardError::BookFull) where the name stands and the history is full, then
-    /// [`Memory`](BoardError::Memory) (also where the batch is shared 2^63 times). The batch is shared, not copied. It
-    /// takes the logarithm of the number of batches that stand.
+    /// [`BookFull`](BoardError::BookFull) if the name is there and the history is full, then
+    /// [`Memory`](BoardError::Memory) (also if the batch is shared 2^63 times). The batch is shared, not copied. It
+    /// takes the logarithm of the number of batches on the board.
     #[tactic(auto, using(crate::proofs::GivenLemmas::given))]
     pub fn fetch<R: Wait>(
         &self,
@@ -166,11 +166,11 @@ impl Board {
         answer
     }
 
-    /// Posts a batch, which is the true one of its name: [`Old`](Posted::Old) below the floor,
-    /// [`Known`](Posted::Known) where the name stands, else [`New`](Posted::New), and the name stands from then on.
+    /// Posts a batch, which is the true one of its name: [`Old`](Posted::Old) below the floor, [`Known`](Posted::Known)
+    /// if the name is there, else [`New`](Posted::New), and the name is there from then on.
     ///
-    /// [`BookFull`](BoardError::BookFull) where the history is full, then [`Memory`](BoardError::Memory). It takes the
-    /// logarithm of the number of batches that stand.
+    /// [`BookFull`](BoardError::BookFull) if the history is full, then [`Memory`](BoardError::Memory). It takes the
+    /// logarithm of the number of batches on the board.
     #[tactic(auto, using(crate::proofs::GivenLemmas::given))]
     pub fn post<R: Wait>(
         &self,
@@ -194,11 +194,11 @@ impl Board {
         answer
     }
 
-    /// Keeps a snapshot of the job: [`New`](Kept::New) where it is further than the one kept for its partition, which it
+    /// Keeps a snapshot of the job: [`New`](Kept::New) if it is further than the one kept for its partition, which it
     /// takes the place of, else [`Behind`](Kept::Behind).
     ///
-    /// [`BookFull`](BoardError::BookFull) where the history is full, then [`Memory`](BoardError::Memory). The snapshot is
-    /// moved, not copied; the one that it displaces is let go after the turn.
+    /// [`BookFull`](BoardError::BookFull) if the history is full, then [`Memory`](BoardError::Memory). The snapshot is
+    /// moved, not copied; the one that it displaces is dropped after the turn.
     #[tactic(auto, using(crate::proofs::GivenLemmas::given))]
     pub fn keep<R: Wait>(
         &self,
@@ -224,11 +224,11 @@ impl Board {
         Ok(reply)
     }
 
-    /// Finds the snapshot that is kept for a partition: None exactly where there is none whose superstep is `at_least`
-    /// so much, and then no entry is added. It is at least as far as what the seat had seen kept.
+    /// Finds the snapshot that is kept for a partition: None exactly if there is none whose superstep is `at_least` so
+    /// much, and then no entry is added. It is at least as far as what the seat had seen kept.
     ///
-    /// [`BookFull`](BoardError::BookFull) where there is one and the history is full, then
-    /// [`Memory`](BoardError::Memory) (also where it is shared 2^63 times). The snapshot is shared, not copied.
+    /// [`BookFull`](BoardError::BookFull) if there is one and the history is full, then [`Memory`](BoardError::Memory)
+    /// (also if it is shared 2^63 times). The snapshot is shared, not copied.
     #[tactic(auto, using(crate::proofs::GivenLemmas::given))]
     pub fn recall<R: Wait>(
         &self,
@@ -266,8 +266,8 @@ impl Board {
 
     /// Raises the floor to `superstep` at least, and drops the batches below it.
     ///
-    /// [`BookFull`](BoardError::BookFull) where the history is full, then [`Memory`](BoardError::Memory). The
-    /// batches are let go after the turn.
+    /// [`BookFull`](BoardError::BookFull) if the history is full, then [`Memory`](BoardError::Memory). The batches are
+    /// freed after the turn.
     #[tactic(auto, using(crate::proofs::GivenLemmas::given))]
     pub fn drop_below<R: Wait>(
         &self,

@@ -29,11 +29,11 @@ use std::mem;
 use std::snapshot::Snapshot as Seen;
 use std::sync::Arc;
 
-/// A history, with what it leaves: the floor, the batches that stand, and the snapshot kept for each partition.
+/// A history, with what it leaves: the floor, the batches on the board, and the snapshot kept for each partition.
 ///
 /// It is what the threads at a [`Board`](crate::Board) take turns with, and by itself a board of one caller: each call
-/// is given the caller's number and how many entries the history may have, and the history is its model. Where a call
-/// answers an error the book is as it was. What a call displaces it gives back, so that who calls may let it go when
+/// is given the caller's number and how many entries the history may have, and the history is its model. If a call
+/// answers an error the book is as it was. What a call displaces it gives back, so that who calls may drop it when
 /// nobody waits.
 #[derive(Drop)]
 pub struct Book {
@@ -80,10 +80,10 @@ impl Book {
         self.calls.entries()
     }
 
-    /// Finds the batch of a name, and notes it: None exactly where the name does not stand, and then nothing is noted.
+    /// Finds the batch of a name, and notes it: None exactly if the name is not there, and then nothing is noted.
     ///
-    /// [`BookFull`](BoardError::BookFull) where the name stands and there are `limit` entries, then
-    /// [`Memory`](BoardError::Memory) (also where the batch is shared 2^63 times).
+    /// [`BookFull`](BoardError::BookFull) if the name is there and there are `limit` entries, then
+    /// [`Memory`](BoardError::Memory) (also if the batch is shared 2^63 times).
     pub fn fetch(
         &mut self,
         by: u64,
@@ -108,10 +108,10 @@ impl Book {
         Ok(Some(copy))
     }
 
-    /// Puts a batch where none of its name stands, and notes the reply. The batch is shared, not moved.
+    /// Puts a batch if none of its name is there, and notes the reply. The batch is shared, not moved.
     ///
-    /// [`BookFull`](BoardError::BookFull) where there are `limit` entries, then [`Memory`](BoardError::Memory) (also
-    /// where the batch is shared 2^63 times).
+    /// [`BookFull`](BoardError::BookFull) if there are `limit` entries, then [`Memory`](BoardError::Memory) (also if
+    /// the batch is shared 2^63 times).
     pub fn post(&mut self, by: u64, batch: &Arc<Batch>, limit: u32) -> Result<Posted, BoardError>
         requires { IsTrueBatch self.old.job (arc_value batch.now) }
         ensures ok { IfOk result
@@ -128,11 +128,11 @@ impl Book {
         Ok(reply)
     }
 
-    /// Keeps a snapshot where it is further than the one kept for its partition, and notes the reply; it gives back the
+    /// Keeps a snapshot if it is further than the one kept for its partition, and notes the reply; it gives back the
     /// one that it displaces. The snapshot is shared, not moved.
     ///
-    /// [`BookFull`](BoardError::BookFull) where there are `limit` entries, then [`Memory`](BoardError::Memory) (also
-    /// where the snapshot is shared 2^63 times).
+    /// [`BookFull`](BoardError::BookFull) if there are `limit` entries, then [`Memory`](BoardError::Memory) (also if
+    /// the snapshot is shared 2^63 times).
     pub fn keep(
         &mut self,
         by: u64,
@@ -156,11 +156,11 @@ impl Book {
         Ok((reply, displaced))
     }
 
-    /// Finds the snapshot that is kept for a partition, where its superstep is `at_least` so much, and notes it: None
-    /// exactly where there is none, and then nothing is noted.
+    /// Finds the snapshot that is kept for a partition, if its superstep is `at_least` so much, and notes it: None
+    /// exactly if there is none, and then nothing is noted.
     ///
-    /// [`BookFull`](BoardError::BookFull) where there is one and there are `limit` entries, then
-    /// [`Memory`](BoardError::Memory) (also where it is shared 2^63 times).
+    /// [`BookFull`](BoardError::BookFull) if there is one and there are `limit` entries, then
+    /// [`Memory`](BoardError::Memory) (also if it is shared 2^63 times).
     pub fn recall(
         &mut self,
         by: u64,
@@ -187,9 +187,10 @@ impl Book {
         Ok(Some(copy))
     }
 
-    /// Raises the floor to `superstep` at least, and notes it; it gives back the batches below, which stand no more.
+    /// Raises the floor to `superstep` at least, and notes it; it gives back the batches below, which are no longer on
+    /// the board.
     ///
-    /// [`BookFull`](BoardError::BookFull) where there are `limit` entries, then [`Memory`](BoardError::Memory).
+    /// [`BookFull`](BoardError::BookFull) if there are `limit` entries, then [`Memory`](BoardError::Memory).
     pub fn drop_below(
         &mut self,
         by: u64,
@@ -223,7 +224,7 @@ fn start_kept(alloc: Global, parts: u16) -> Result<Vec<Option<Arc<Snapshot>>>, A
     Ok(kept)
 }
 
-// Puts a batch where none of its name stands.
+// Puts a batch if none of its name is there.
 fn put_batch(
     standing: &mut BTreeMap<BatchName, Arc<Batch>>,
     floor: u32,
@@ -249,7 +250,7 @@ fn put_batch(
     Ok(Posted::New)
 }
 
-// Puts a snapshot in its place where it is further than the one there, which is then given back.
+// Puts a snapshot in its place if it is further than the one there, which is then given back.
 fn put_snapshot(
     kept: &mut Vec<Option<Arc<Snapshot>>>,
     snapshot: Arc<Snapshot>,
@@ -280,7 +281,7 @@ fn is_ahead(old: &Option<Arc<Snapshot>>, new: &Snapshot) -> bool
     }
 }
 
-// The snapshot that is kept for a partition, where it is far enough.
+// The snapshot that is kept for a partition, if it is far enough.
 fn find_snapshot(kept: &[Option<Arc<Snapshot>>], part: u16, at_least: u32) -> Option<&Arc<Snapshot>>
     ensures found { IfSome result (λ a. (slice_index_or kept.now part None ≡ Some a.now)
         × (at_least ≤ (arc_value a.now).superstep)) }

@@ -12,7 +12,7 @@ use std::alloc::Global;
 use std::mem;
 use std::sync::Arc;
 
-/// How many entries stand side by side. The history grows by so many at once, so that no entry is ever moved far.
+/// How many entries lie side by side. The history grows by so many at once, so that no entry is ever moved far.
 const SHEET: usize = 1024;
 
 /// The calls of a history.

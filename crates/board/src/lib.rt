@@ -1,10 +1,10 @@
 //! One history that threads share: a board on which batches are posted and fetched, snapshots kept and recalled.
 //!
-//! A [`Board`] is shared by reference; each thread calls it through a [`Seat`] of its own. Every call stands once in
-//! one history, answered as a board of a single caller would answer it there (linearizability: Herlihy and Wing
-//! 1990); which replies those are is a definition of `ball_model`. Contracts see a seat as its number and the history
-//! that it has seen, a beginning of the one there is. After a call the seat has seen all of it, so its own entry is
-//! the last.
+//! A [`Board`] is shared by reference; each thread calls it through a [`Seat`] of its own. Every call that does or
+//! finds something is one entry of one history, answered as a board of a single caller would answer it there
+//! (linearizability: Herlihy and Wing 1990); which replies those are is a definition of `ball_model`. Contracts see a
+//! seat as its number and the history that it has seen, a beginning of the one there is. After a call the seat has seen
+//! all of it, so its own entry, if it has one, is the last.
 //!
 //! ```text
 //!   the history   Open 1 2 3 4 5 6 7      one call:  draw a ticket, wait until it is served,
@@ -15,16 +15,16 @@
 //! ```text
 //! let (board, mut first) = Board::open(alloc, &graph, &plan, 1000)?;
 //! let mut second = first.split(&board);            // for another thread
-//! board.post(rt, &mut first, batch)?               // New: the name stands from now on
+//! board.post(rt, &mut first, batch)?               // New: the name is there from now on
 //! board.fetch(rt, &mut second, name)?              // Some(batch)
 //! board.join(&mut first, second);                  // the first has seen what the second had
 //! board.length(&mut first)                         // 3: the opening, the post and the fetch
 //! ```
 //!
 //! Calls take turns by a ticket lock over three words, and what they ask lies in one slot, the book: the entries, the
-//! floor, the batches that stand by name, and the furthest snapshot of each partition. A call holds its turn for its
-//! own work alone: a search among the batches that stand, and an entry of the history. What it displaces is let go after
-//! its turn. No rows are copied, and nothing is in proportion to the history.
+//! floor, the batches by name, and the furthest snapshot of each partition. A call holds its turn for its own work
+//! alone: a search among the batches, and an entry of the history. What it displaces is dropped after its turn. No rows
+//! are copied, and nothing is in proportion to the history.
 //!
 //! While a caller waits with a ticket, mostly nobody else draws one: who comes then looks some sixty times, and sleeps,
 //! 50 microseconds at first and 800 later, at most a thousand times. Who has a ticket looks some sixty times, and sleeps

@@ -94,7 +94,7 @@ impl Split<Knowledge> for GivesNumbers {
     ghost right = { newcomer };
 }
 
-/// A seat is told what another has seen, which ends.
+/// A seat gets to know what another has seen, which ends.
 pub struct TellsOfEnded;
 
 impl Join<Knowledge> for TellsOfEnded {

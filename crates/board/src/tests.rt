@@ -138,7 +138,7 @@ fn tell(
     batches.push(batch).ok()
 }
 
-/// A replica goes on to the next superstep, or stays where the run ends.
+/// A replica goes on to the next superstep, or stays if the run is over.
 fn go_on(setting: &Setting, replica: &mut Replica)
     requires { Stands setting.now replica.old }
     ensures { Stands setting.now replica.new }
@@ -146,7 +146,7 @@ fn go_on(setting: &Setting, replica: &mut Replica)
     let _ = replica.close();
 }
 
-/// Two replicas, what they told each other, and what the first had before.
+/// Two replicas, what they sent each other, and what the first had before.
 #[derive(Drop)]
 struct Stock {
     setting: Setting,
@@ -168,7 +168,7 @@ impl Model for Stock {
 }
 
 impl Stock {
-    /// Both at superstep 0, where they told each other nothing yet.
+    /// Both at superstep 0, when they have sent each other nothing yet.
     fn start(alloc: Global, setting: Setting) -> Option<Stock> {
         let mut first = replica(alloc, &setting, 0)?;
         let second = replica(alloc, &setting, 1)?;
@@ -192,7 +192,7 @@ impl Stock {
         Some(())
     }
 
-    /// Behind four supersteps, which is where the run ends: eight batches.
+    /// After four supersteps, when the run ends: eight batches.
     fn new<R: AllocGlobal + RandomSource>(rt: &R) -> Option<Stock> {
         let mut stock = Stock::start(rt.alloc(), two_edges(rt, 2)?)?;
         for _ in 0..4u8 {
@@ -210,7 +210,7 @@ struct Scene {
 }
 
 impl Scene {
-    /// One of a new board of so many entries, and its first seat: None where memory was refused.
+    /// One of a new board of so many entries, and its first seat: None if memory was refused.
     fn open<R: AllocGlobal + RandomSource>(rt: &R, entries: u32) -> Option<(Scene, Seat)>
         requires { (LEAST_ENTRIES ≤ entries) × (entries ≤ MOST_ENTRIES) }
         ensures seat { IfSome result (λ r.

@@ -1,7 +1,7 @@
 //! The turn of a call: a ticket is drawn, the book is taken once the ticket is served, and given back.
 //!
-//! A ticket is drawn only where no other caller waits with one, so that mostly two are out: who is served, and who is
-//! next. The others wait before they draw, where they hold up nobody, however late they wake.
+//! A ticket is drawn only if no other caller waits with one, so that mostly two are out: who is served, and who is
+//! next. The others wait before they draw, when they hold up nobody, however late they wake.
 
 ghost use Rattle.std.specs.Prelude.{◌≡◌, ◌%◌, ◌^◌, ◌∷◌, [], None, Some};
 ghost use Rattle.ball_model.specs.History.{HistoryEvent, entries_of};
@@ -47,7 +47,7 @@ pub fn look_at_length(table: &BoardTable, pass: &mut Pass) -> u64
     table.shared.load::<LooksAtLength>(pass, LENGTH)
 }
 
-// The next ticket, where one caller is served and another waits with a ticket.
+// The next ticket, if one caller is served and another waits with a ticket.
 fn look_at_queue(table: &BoardTable) -> Option<u64>
     requires table { IsSized table.now.shared.table_id }
 {
@@ -62,7 +62,7 @@ fn low_half(word: u64) -> u32 {
 }
 
 // Lets time pass after so many looks at the queue: a moment at first, and then a sleep, longer each time up to 800
-// microseconds. It is short where a ticket is drawn just then.
+// microseconds. It is short if a ticket is drawn just then.
 fn pause_outside<R: Wait>(rt: &R, table: &BoardTable, looks: u32, next: u64)
     requires table { IsSized table.now.shared.table_id }
 {

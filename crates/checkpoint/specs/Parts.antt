@@ -17,7 +17,7 @@ heard_bytes v = to_be_bytes w64 (mask_of v.heard) ++ (mark_byte v.heard_change �
 unfoldable pub count_bytes : State → List ℕ
 count_bytes v = to_be_bytes w16 (length (kept_batches v.early))
 
--- the i-th of them, where there are so many
+-- the i-th of them, if there are so many
 unfoldable pub nth_bytes : State → ℕ → List ℕ
 nth_bytes v i = flat_map early_bytes (option_to_list (slice_get (kept_batches v.early) i))
 

@@ -121,7 +121,7 @@ told_body part head rest =
     check_checkpoint_head part (checkpoint_head_at head)
     >>= λ fine. body_form part (checkpoint_head_at head) rest
 
--- all that stands before the digest
+-- all that is before the digest
 abbrev pub content_form : PartValue → Form
 content_form part = followed (needs HEADER_LEN) (told_body part)
 
@@ -191,7 +191,7 @@ pub record TakesBytes {R : Type 0} (remaining : R → Option (List ℕ)) (failed
   pub counted : failed new ≡ failed old
   pub calls : AfterAtMost (length bytes) (sure old) (sure new)
 
--- the bytes of a form, at most so many, were read behind what was there
+-- the bytes of a form, at most so many, were read and put after what was there
 pub record Grows {R : Type 0} (remaining : R → Option (List ℕ)) (failed : R → ℕ)
     (sure : R → Option ℕ) (form : Form) (most : ℕ) (old new : R) (before after : Text) : Type 0
   where
@@ -201,7 +201,7 @@ pub record Grows {R : Type 0} (remaining : R → Option (List ℕ)) (failed : R 
     pub is_form : (rest : List ℕ) → form (piece ++ rest) ≡ Ok (length piece)
     pub few : length piece ≤ most
 
--- the fixed fields were read behind what was there
+-- the fixed fields were read and put after what was there
 pub record GrowsByHead {R : Type 0} (remaining : R → Option (List ℕ)) (failed : R → ℕ)
     (sure : R → Option ℕ) (old new : R) (before after : Text) (h : CheckpointHeader) : Type 0
   where
@@ -209,7 +209,7 @@ pub record GrowsByHead {R : Type 0} (remaining : R → Option (List ℕ)) (faile
     pub long : length grows.piece ≡ HEADER_LEN
     pub head : h ≡ checkpoint_head_at grows.piece
 
--- all that stands before the digest was, and it is no longer than its fixed fields allow
+-- all that is before the digest was read, and it is no longer than its fixed fields allow
 pub record GrowsByContent {R : Type 0} (remaining : R → Option (List ℕ)) (failed : R → ℕ)
     (sure : R → Option ℕ) (part : PartValue) (old new : R) (before after : Text)
     (h : CheckpointHeader) : Type 0 where
@@ -266,17 +266,17 @@ pub record RefusesAs {R : Type 0} (remaining : R → Option (List ℕ)) (failed 
       (sealed_form part bytes ≡ Err e)
       ⊎ ((e ≡ errors.Shape) × IsOk (sealed_form part bytes) × TellNone part bytes)
 
--- the fixed fields stand there, and they are those of a replica of the part
+-- the fixed fields are there, and they are those of a replica of the part
 pub record HasHead (part : PartValue) (bytes : List ℕ) : Type 0 where
   pub long : HEADER_LEN ≤ length bytes
   pub passes : check_checkpoint_head part (checkpoint_head_at (take HEADER_LEN bytes)) ≡ Ok tt
 
--- where it is Ok, and where memory was refused, this is so
+-- if it is Ok, or memory was refused, this is so
 abbrev pub OnOkOrMemory : {A : Type 0} → Result A KeepError → Type 0 → Type 0
 OnOkOrMemory (Ok x) has = has
 OnOkOrMemory (Err e) has = e ≡ errors.Memory → has
 
--- it is Ok and has this, but where memory was refused or a read failed
+-- it is Ok and has this, unless memory was refused or a read failed
 abbrev pub IfOkButWant : {A : Type 0} → Result A KeepError → (A → Type 0) → Type 0
 IfOkButWant (Ok x) has = has x
 IfOkButWant (Err e) has = (e ≡ errors.Memory) ⊎ (e ≡ errors.Read)

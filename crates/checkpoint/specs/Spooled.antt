@@ -8,7 +8,7 @@ use Rattle.checkpoint.specs.Writing.{Writes}
 abbrev pub waiting : Spool → List ℕ
 waiting spool = take spool.used spool.piece
 
--- of what waited before, and these bytes behind it, a first part was digested and written, and the rest waits now
+-- of what waited before, and these bytes after it, a first part was digested and written, and the rest waits now
 pub record PassesOn {W : Type 0} (contents : W → Option (List ℕ)) (failed : W → ℕ)
     (sure : W → Option ℕ) (room : W → ℕ) (old new : W) (before after : Spool)
     (bytes : List ℕ) : Type 0 where

@@ -24,7 +24,7 @@ entry_at v i =
     entry_bytes (slice_index_or v.marks.items i false)
     (slice_index_or (map value_of v.tallies.items) i no_figures) (slice_index_or v.rows.rows i [])
 
--- no vertex is told of yet, and all registers are zeros
+-- there is no vertex yet, and all registers are zeros
 pub record AreNone (v : Vertices) : Type 0 where
   pub marks : v.marks.items ≡ []
   pub tallies : v.tallies.items ≡ []
@@ -35,13 +35,13 @@ pub record HasRoomForAll (v : Vertices) : Type 0 where
   pub marks : length v.rows.rows ≤ vec_capacity v.marks
   pub tallies : length v.rows.rows ≤ vec_capacity v.tallies
 
--- the bytes are the spelling of the first n vertices, and behind it the rest
+-- the bytes are the spelling of the first n vertices, and after it the rest
 pub record AreVerticesTold (n : ℕ) (v : Vertices) (bytes rest : List ℕ) : Type 0 where
   pub marks : length v.marks.items ≡ n
   pub tallies : length v.tallies.items ≡ n
   pub text : bytes ≡ flat_map (entry_at v) (range_with_len 0 n) ++ rest
 
--- the bytes are the spelling of one vertex, which is added as vertex i, and behind it the rest
+-- the bytes are the spelling of one vertex, which is added as vertex i, and after it the rest
 pub record IsAdded (old new : Vertices) (i : ℕ) (bytes rest : List ℕ) : Type 0 where
   pub mark : Bool
   pub tally : Tally
@@ -52,7 +52,7 @@ pub record IsAdded (old new : Vertices) (i : ℕ) (bytes rest : List ℕ) : Type
   pub text : bytes ≡ entry_bytes mark (value_of tally) row ++ rest
 
 -- ---- what bytes that are a spelling tell
--- it is Ok and has this, but where memory was refused
+-- it is Ok and has this, unless memory was refused
 abbrev pub IfOkButMemory : {A : Type 0} → Result A KeepError → (A → Type 0) → Type 0
 IfOkButMemory (Ok x) has = has x
 IfOkButMemory (Err e) has = e ≡ errors.Memory

@@ -33,7 +33,7 @@ pub enum KeepError {
     /// The bytes tell what no replica of the partition has.
     #[error("no replica has this shape")]
     Shape,
-    /// Memory was refused. It is told only where no check of the bytes up to their end fails.
+    /// Memory was refused. It is answered only if no check of the bytes up to their end fails.
     #[error("out of memory")]
     Memory,
     /// The last 32 bytes are not the SHA-256 of those before.

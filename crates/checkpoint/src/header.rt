@@ -13,7 +13,7 @@ use edgelist::Part;
 /// `HBCK`.
 pub(crate) const MAGIC: u32 = 0x4842_434b;
 
-/// The fixed fields, as they stand.
+/// The fixed fields as the bytes have them, not checked yet.
 #[derive(Clone, Copy)]
 pub struct CheckpointHeader {
     /// `HBCK` in every checkpoint.

@@ -46,7 +46,7 @@ fn early_length(replica: &Replica) -> u64
     length
 }
 
-// How many bytes the i-th of them has with its length before it, where there are so many.
+// How many bytes the i-th of them has with its length before it, if there are so many.
 fn nth_length(replica: &Replica, i: u32) -> u64
     ensures value { result ≡ length (nth_bytes replica.now i) }
     ensures few { result ≤ longest_batch }
@@ -62,7 +62,7 @@ fn batch_length(batch: &Batch) -> u64
     ensures value { result ≡ length (batch_bytes batch.now) }
     ensures few { result + LENGTH_LEN ≤ longest_batch }
 {
-    // the limits of a batch are told with its name
-    let _name = batch.name();
+    // the limits of a batch come with its name
+    let _limits = batch.name();
     batch.length()
 }

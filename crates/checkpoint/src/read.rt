@@ -42,7 +42,7 @@ pub fn check_front(part: &Part, bytes: &[u8]) -> Result<(), KeepError>
     check_header(part, &read_header(&bytes[..HEADER_LEN]))
 }
 
-// Reads the fixed fields behind the text, and checks them before.
+// Reads the fixed fields, checks them, and puts them after the text.
 fn read_head<R: CountedRead>(
     part: &Part,
     reader: &mut R,
@@ -167,10 +167,10 @@ fn read_saved<R: CountedRead>(
 /// [`Shape`](KeepError::Shape) (fixed fields), `Short` (up to the accumulators, or in version 1 up to the sums); the
 /// number of early batches (`Short`, `Shape`), and each batch's length (`Short`, `Shape`) and bytes (`Short`); `Short`
 /// (digest), [`Digest`](KeepError::Digest), [`Trailing`](KeepError::Trailing); then [`Memory`](KeepError::Memory) for
-/// the text, and `Shape` and `Memory` of what the bytes tell. [`Read`](KeepError::Read) is answered where a call of the
+/// the text, and `Shape` and `Memory` of what the bytes tell. [`Read`](KeepError::Read) is answered if a call of the
 /// reader fails.
 ///
-/// Memory is taken as the bytes come, never for a number that they only claim. Where it is refused the rest is read
+/// Memory is taken as the bytes come, never for a number that they only claim. If it is refused the rest is read
 /// without it, and checked as before. Version 1 tells of no batches.
 pub fn read_checkpoint<R: CountedRead>(
     alloc: Global,
@@ -187,7 +187,7 @@ pub fn read_checkpoint<R: CountedRead>(
     // What is read is a spelling of the replica: in version 2, or in version 1 of one that holds nothing.
     ensures spelling { IfOk result (λ r. (bytes : List ℕ) → R.remaining reader.old ≡ Some bytes →
         IsReplicaSpelling r bytes) }
-    // What was written of a replica of the part is read as that replica, but where memory is refused or a read fails; what
+    // What was written of a replica of the part is read as that replica, unless memory is refused or a read fails; what
     // version 1 wrote, as the replica without what it held.
     ensures back { (v : State) → IsKeepable v → v.part ≡ arc_value part →
         R.remaining reader.old ≡ Some (checkpoint_bytes v) → IfOkButWant result (λ r. r ≡ v) }
@@ -195,7 +195,7 @@ pub fn read_checkpoint<R: CountedRead>(
         R.remaining reader.old ≡ Some (first_checkpoint_bytes v) →
         IfOkButWant result (λ r. r ≡ without_names v) }
     ensures keepable { IfOk result IsKeepable }
-    // A read failed exactly where that is told, and none of sure calls does.
+    // A read failed exactly if that is the answer, and none of sure calls does.
     ensures counted { OnOk result (R.failed_calls reader.new ≡ R.failed_calls reader.old) }
     ensures only { AreSure (R.sure_calls reader.old)
         (most_checkpoint_bytes (arc_value part) (arc_value part).plan.limit + 1) →

@@ -164,7 +164,7 @@ fn add_vertex<'a>(vertices: &mut Vertices, i: usize, bytes: &'a [u8]) -> Result<
     Ok(rest)
 }
 
-// Adds the vertices, ascending, where there are none yet, and answers the bytes after them.
+// Adds the vertices, ascending, if there are none yet, and answers the bytes after them.
 fn add_vertices<'a>(vertices: &mut Vertices, bytes: &'a [u8]) -> Result<&'a [u8], KeepError>
     requires none { AreNone vertices.old }
     requires room { HasRoomForAll vertices.old }

@@ -74,7 +74,7 @@ impl Spool {
         put(writer, &mut self.hasher, bytes)
     }
 
-    /// All is written, and behind it its SHA-256.
+    /// All is written, and after it its SHA-256.
     pub fn seal<W: CountedWrite>(self, writer: &mut W) -> Result<(), Failed>
         ensures done { OnOk result ((m : List ℕ) → Holds256 self.hasher m →
             Writes W.contents W.failed_calls W.sure_calls W.room
@@ -120,7 +120,7 @@ impl Spool {
     }
 }
 
-// Bytes stand in a buffer from a place on, behind what stands before it.
+// Bytes are put into a buffer from a place on, after what is before it.
 fn fill_from(piece: &mut [u8], at: usize, bytes: &[u8])
     requires { at + length bytes.now ≤ length piece.old }
     ensures front { take (at + length bytes.now) piece.new ≡ take at piece.old ++ bytes.now }

@@ -45,7 +45,7 @@ pub(crate) fn read_full<R: CountedRead>(reader: &mut R, buffer: &mut [u8]) -> Re
     }
 }
 
-// Reads a piece behind the text.
+// Reads a piece, which is put after the text.
 fn read_piece<R: CountedRead>(
     reader: &mut R,
     text: &mut Text,
@@ -64,7 +64,7 @@ fn read_piece<R: CountedRead>(
     Ok(())
 }
 
-// Reads so many bytes behind the text, which grows as they come.
+// Reads so many bytes, which are put after the text: it grows as they come.
 fn read_more<R: CountedRead>(reader: &mut R, text: &mut Text, count: usize) -> Result<(), KeepError>
     ensures done { OnOk result (Grows R.remaining R.failed_calls R.sure_calls (needs count) count
         reader.old reader.new text.old text.new) }

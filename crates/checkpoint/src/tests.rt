@@ -71,7 +71,7 @@ fn early_holds(rt: &HostRuntime, part: &Arc<Part>) -> bool {
     early_is_read(rt, part) && are_cut(rt, part, &TWO_EARLY)
 }
 
-/// Both, and what is told of a replica that goes out in pieces.
+/// Whether both hold, and a replica that goes out in pieces is cut by each failing call.
 fn all_hold(rt: &HostRuntime) -> Option<bool> {
     let both = edges_hold(rt, &whole(rt)?) && early_holds(rt, &half(rt)?);
     Some(both && many_are_cut(rt, &part_of(rt, VERTICES, 1, 0)?))

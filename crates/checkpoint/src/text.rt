@@ -7,7 +7,7 @@ ghost use Rattle.sha2.specs.Sha256.{sha256};
 use sha2::{Digest, Sha256};
 use std::alloc::{AllocError, Global};
 
-/// What was read, and its digest. Where memory for it is refused it is digested alone, so that the bytes can still be
+/// What was read, and its digest. If memory for it is refused it is digested alone, so that the bytes can still be
 /// checked up to their end.
 #[derive(Drop)]
 pub(crate) struct Text {

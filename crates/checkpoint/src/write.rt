@@ -44,7 +44,7 @@ pub fn write_checkpoint<W: CountedWrite>(replica: &Replica, writer: &mut W) -> R
     Ok(())
 }
 
-// All of a replica, and behind it the SHA-256.
+// All of a replica, and after it the SHA-256.
 fn keep_sealed<W: CountedWrite>(replica: &Replica, writer: &mut W) -> Result<(), Failed>
     ensures done { OnOk result (Writes W.contents W.failed_calls W.sure_calls W.room
         writer.old writer.new (checkpoint_bytes replica.now)) }
@@ -288,7 +288,7 @@ fn keep_early<W: CountedWrite>(
     Ok(())
 }
 
-// The i-th of the batches that are kept, where there are so many.
+// The i-th of the batches that are kept, if there are so many.
 fn keep_nth<W: CountedWrite>(
     replica: &Replica,
     i: u32,

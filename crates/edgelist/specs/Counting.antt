@@ -21,7 +21,7 @@ pub record IsListRefusal
   pub read : network_in s input ≡ Ok all
   pub refused : RefusesList (counted_in s all list) e
 
--- the same of one record, for which no memory is taken
+-- this error is what one record of the list says, for which no memory is taken
 abbrev pub ListFaultIs : Option CountedRefusal → CountedError → Type 0
 ListFaultIs fault (refused.Fields number) = fault ≡ Some (NotOne number)
 ListFaultIs fault (refused.Unknown number) = fault ≡ Some (Unknown number)

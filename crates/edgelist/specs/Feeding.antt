@@ -21,8 +21,7 @@ width_of (Wide _) = 64
 abbrev pub edges_into : ℕ → List ℕ → List (ℕ × ℕ)
 edges_into x ys = map (λ y. (y, x)) ys
 
--- mask i is that of vertex i * step + first: its bit r is set where one of these edges leads from there into
--- partition r
+-- mask i is that of vertex i * step + first: its bit r is set if one of these edges leads from there into partition r
 pub record AreMasks (step first parts : ℕ) (edges : List (ℕ × ℕ)) (masks : List ℕ) : Type 0 where
   pub fits : (i : ℕ) → slice_index masks i < 2 ^ 64
   pub bits : (i r : ℕ) → i < length masks → r < 64 →

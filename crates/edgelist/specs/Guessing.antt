@@ -5,7 +5,7 @@ use Rattle.edgelist.specs.declared.numbering.LabelGuess.{LabelGuess}
 use Rattle.edgelist.specs.declared.numbering.LabelWord.{LabelWord}
 use Rattle.edgelist.specs.declared.numbering.TheConstants.{FIRST, SHORT}
 
--- more bytes behind those of a number, which are its digits to the base 256
+-- more bytes after those of a number, which are its digits to the base 256
 unfoldable pub bytes_after : ℕ → List ℕ → ℕ
 bytes_after w [] = w
 bytes_after w (b ∷ bs) = bytes_after (w * 256 + b) bs
@@ -30,7 +30,7 @@ IsWord label word = IsShort label → word ≡ word_of label
 abbrev pub HasWord : List (List ℕ) → ℕ → LabelWord → Type 0
 HasWord fields i word = IfSome (field_at fields i) (λ label. IsWord label word)
 
--- this is the number of the label: it stands there among the others
+-- this is the number of the label: it is there among the others
 pub record StandsAt (labels : List (List ℕ)) (label : List ℕ) (i : ℕ) : Type 0 where
   pub within : i < length labels
   pub is : slice_index_or labels i [] ≡ label

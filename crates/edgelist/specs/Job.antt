@@ -19,7 +19,7 @@ numbers_of o =
 abbrev pub settings_of : JobOptions → Settings
 settings_of o = record { numbers = numbers_of o; delimiter = byte_of o.delimiter }
 
--- where a reader tells its bytes, and these and the list are plain, this holds of them
+-- if a reader tells its bytes, and these and the list are plain, this holds of them
 abbrev pub WherePlain : Option (List ℕ) → Option (Bor (List ℕ)) →
     (List ℕ → Option (List ℕ) → Type 0) → Type 0
 WherePlain told counted holds = IfSome told (λ input.

@@ -31,18 +31,18 @@ LabelsAreFields = (records : List (List (List ℕ))) (label : List ℕ) →
     list_any (bytes_eq label) (labels_of records)
     ≡ list_any (bytes_eq label) (flat_map (λ r. r) records)
 
--- there is an edge from y to x exactly where some record leads from the label of y to that of x
+-- there is an edge from y to x exactly if some record leads from the label of y to that of x
 abbrev pub EdgesAreNamed : Type 0
 EdgesAreNamed = (records : List (List (List ℕ))) (y x : ℕ) → y < length (labels_of records) →
     x < length (labels_of records) →
     is_edge (network_of records).graph y x
     ≡ list_any (leads (label_at records y) (label_at records x)) records
 
--- the ends of each edge are vertices, and each edge stands once
+-- the ends of each edge are vertices, and each edge is there once
 abbrev pub EdgesStandOnce : Type 0
 EdgesStandOnce = (records : List (List (List ℕ))) → IsGraph (network_of records).graph
 
--- the vertex with this label; where no vertex has it, a number that is no vertex
+-- the vertex with this label; if no vertex has it, a number that is no vertex
 abbrev pub vertex_at : List (List (List ℕ)) → List ℕ → ℕ
 vertex_at records label = position_or_len (bytes_eq label) (labels_of records)
 

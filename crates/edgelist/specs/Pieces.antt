@@ -51,18 +51,18 @@ pub record AddsRecords (limits : Limits) (number : ℕ) (rs : List (List (List �
 abbrev pub EndsLine : List ℕ → Type 0
 EndsLine text = (text ≡ []) ⊎ ((front : List ℕ) × (text ≡ front ++ 10 ∷ []))
 
--- what is held of a text is what follows that which was read, behind an LF exactly where something was read
+-- what is held of a text is what follows that which was read, after an LF exactly if something was read
 abbrev pub IsLeftOf : List ℕ → List ℕ → List ℕ → Type 0
 IsLeftOf done left lines =
     ((done ≡ []) × (lines ≡ left)) ⊎ ((done ≢ []) × (lines ≡ 10 ∷ left))
 
--- bytes of a reader were put behind those that are held
+-- bytes of a reader were put after those that are held
 pub record Fills (old new : Option (List ℕ)) (lines lines' : List ℕ) : Type 0 where
   pub taken : List ℕ
   pub held : lines' ≡ lines ++ taken
   pub consumed : Consumes old new taken
 
--- what stands from a line's beginning up to another's, with the LF before it where there is one
+-- the bytes from a line's beginning up to another's, with the LF before them if there is one
 abbrev pub piece_of : List ℕ → ℕ → ℕ → List ℕ
 piece_of lines at end = slice_range lines (at - 1) end
 

@@ -40,7 +40,7 @@ abbrev pub large_meaning_of : EdgeLimits → Delimiter → List ℕ → Result N
 large_meaning_of limits delimiter text =
     large_input_of (byte_of delimiter) (limits_of limits) text
 
--- a count of failed calls rose from a number below the greatest that can be told
+-- a count of failed calls rose from a number below the greatest that can be answered
 abbrev pub CountsOne : ℕ → ℕ → Type 0
 CountsOne old new = (old < 2 ^ 64 - 1) × (old < new)
 
@@ -52,7 +52,7 @@ Refuses says (refused.Fields number) = says ≡ Err (Fields number)
 Refuses says refused.TooManyVertices = says ≡ Err TooManyVertices
 Refuses says refused.Memory = ⊤
 
--- what an error of `csv` is told as: one of the reader underneath as a failed read, all others as want of memory
+-- what an error of `csv` is answered as: one of the reader underneath as a failed read, all others as want of memory
 abbrev pub edge_error : Bool → EdgeError
 edge_error true = refused.Read
 edge_error false = refused.Memory
@@ -65,7 +65,7 @@ IsRefusal (refused.Fields number) = ⊤
 IsRefusal refused.TooManyVertices = ⊤
 IsRefusal refused.Memory = ⊥
 
--- the same of one record
+-- the error is what one record says; want of memory says nothing of it
 abbrev pub FaultIs : Option Refusal → EdgeError → Type 0
 FaultIs fault refused.Read = ⊥
 FaultIs fault refused.TooManyEdges = fault ≡ Some TooManyEdges
@@ -91,7 +91,7 @@ pub record Link : Type 0 where
   pub target : List ℕ
   pub source : List ℕ
 
--- the link that a record says, where it says one
+-- the link that a record says, if it says one
 abbrev pub link_in : List (List ℕ) → List Link
 link_in [] = []
 link_in (a ∷ []) = []
@@ -181,13 +181,13 @@ pub record EndsAt {R : Type 0} (rem : R → Option (List ℕ)) (d : ℕ) (text :
   pub clean : IsClean limits before
   pub fault : FaultIs (fault_at limits (before ++ last ∷ []) (length before)) error
 
--- where a record was refused, none was read after it
+-- if a record was refused, none was read after it
 abbrev pub EndsAtFault : {R T : Type 0} → (R → Option (List ℕ)) → Reader R → Reader R → Limits →
     Result T EdgeError → Type 0
 EndsAtFault rem old new limits result = (d : ℕ) (text : List ℕ) → IsLeft rem d text [] old →
     IfErr result (λ error. IsRefusal error → EndsAt rem d text limits new error)
 
--- where all records were read, the reader is as a read leaves it that found no record more
+-- if all records were read, the reader is as a read leaves it that found no record more
 abbrev pub EndsAtEnd : {R T : Type 0} → (R → Option (List ℕ)) → Reader R → Reader R →
     Result T EdgeError → Type 0
 EndsAtEnd rem old new result = (d : ℕ) (text : List ℕ) → IsLeft rem d text [] old →

@@ -60,7 +60,7 @@ pub record IsLeft {R : Type 0} (rem : R → Option (List ℕ)) (d : ℕ) (text :
   pub ends : EndsAtBlank (rows (config d) rdr.state [] [] left)
   pub all : records d text ≡ past ++ filter is_row (rows (config d) rdr.state [] [] left)
 
--- what is said of the bytes of a reader, where these are known and plain
+-- what is said of the bytes of a reader, if these are known and plain
 abbrev pub ForPlain : Option (List ℕ) → (List ℕ → Type 0) → Type 0
 ForPlain known P = (text : List ℕ) → known ≡ Some text → IsPlain text → P text
 

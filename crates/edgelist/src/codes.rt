@@ -15,8 +15,8 @@ use std::thread::{Threads, join_mut};
 // Fewer edges are not worth a thread.
 const LEAST: usize = 16_384;
 
-// The codes of a round, and the places where its lists begin, are held twice for a while. Its edges take 32 MiB, or more
-// where one target has more of them; their codes take less, and the places 4 bytes a target.
+// The codes of a round, and the places where its lists begin, are held twice for a while. Its edges take 32 MiB, or
+// more if one target has more of them; their codes take less, and the places 4 bytes a target.
 const ROUND: u32 = 4_194_304;
 
 /// How the work on codes is dealt out.
@@ -49,7 +49,7 @@ struct Block<'a> {
     count: u32,
 }
 
-// How many edges stand before those with targets below this one.
+// How many edges are before those with targets below this one.
 fn place_of(edges: &[Edge], target: u32) -> usize
     requires { EdgesAscend (reverse edges.now) }
     ensures inside { result ≤ length edges.now }
@@ -105,7 +105,7 @@ fn middle(block: Block<'_>, threads: usize) -> u32
     }
 }
 
-// Does what `code_block` does, by halves of halves, each in a thread of its own where one can be made.
+// Does what `code_block` does, by halves of halves, each in a thread of its own if one can be made.
 #[cycle(codes)]
 fn code_parts<R: Threads + Sync>(
     rt: &R,
@@ -195,7 +195,7 @@ fn round_end(rest: Block<'_>, round: u32) -> u32
 }
 
 // The lists of the next round after those that are there. Also tells the target at which the round ends, and how many
-// edges stand before its own.
+// edges are before its own.
 fn code_round<R: Threads + Sync>(
     rt: &R,
     alloc: Global,
@@ -275,8 +275,8 @@ fn coded_by<R: Threads + Sync>(
     code_rounds(rt, alloc, edges, count, shares)
 }
 
-/// What [`crate::build::lists_of`] tells, by several threads. Beside what that takes, it holds the codes and places
-/// of one round twice: of one target, where that has more edges than a round.
+/// What [`crate::build::lists_of`] tells, by several threads. Beside what that takes, it holds the codes and places of
+/// one round twice: of one target, if that has more edges than a round.
 pub(crate) fn lists_of_by<R: Threads + Sync>(
     rt: &R,
     alloc: Global,

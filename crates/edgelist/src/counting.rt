@@ -55,7 +55,7 @@ impl From<csv::Error> for CountedError {
     }
 }
 
-// The field of a record, where it has one alone that is not empty.
+// The field of a record, if it has one alone that is not empty.
 fn name<'a>(row: &'a ByteRecord) -> Option<&'a [u8]>
     ensures fields { IfSome result (λ name. fields_of row.now ≡ name.now ∷ []) }
     ensures is_name { IfSome result (λ name. is_name (fields_of row.now) ≡ true) }
@@ -165,7 +165,7 @@ fn mark_list(
     mark_all(marks, index, &mut reader, &mut row, list.len() as u64 + 2)
 }
 
-// Marks the labels that a list names, by an index that is let go then.
+// Marks the labels that a list names, by an index that is dropped then.
 fn mark_labels(
     alloc: Global,
     marks: &mut [bool],

@@ -17,8 +17,8 @@ use std::alloc::Global;
 use std::io::Read;
 use std::marker::Model;
 
-/// Where the fields of a record stand among the bytes of all, and the words of the fields. The first ends where the
-/// second begins; where there is no second, that is where the record ends.
+/// Where the fields of a record are among the bytes of all, and the words of the fields. The first ends where the
+/// second begins; if there is no second, that is where the record ends.
 #[derive(Clone, Copy)]
 pub(crate) struct CutRecord {
     start: u32,
@@ -34,13 +34,13 @@ impl CutRecord {
         self.source
     }
 
-    /// The word of the second field, or any where there is none.
+    /// The word of the second field, or any if there is none.
     pub(crate) fn target_word(&self) -> LabelWord {
         self.target
     }
 }
 
-/// Records, each of which has the form of one: the bytes of their fields, one after another, and where each stands.
+/// Records, each of which has the form of one: the bytes of their fields, one after another, and where each is.
 #[derive(Drop)]
 pub(crate) struct Cut {
     bytes: Vec<u8>,
@@ -91,7 +91,7 @@ fn put_second(bytes: &mut Vec<u8>, field: Option<&[u8]>) -> Option<u32>
     }
 }
 
-// Puts the fields of a record after the bytes, if it has the form of one and there is room, and tells where they stand.
+// Puts the fields of a record after the bytes, if it has the form of one and there is room, and tells where they are.
 fn put_fields(bytes: &mut Vec<u8>, row: &Row) -> Option<CutRecord>
     ensures extends { Extends bytes.old.items bytes.new.items }
     ensures cut { IfSome result (IsCut bytes.new.items) }
@@ -145,7 +145,7 @@ impl Cut {
         }
     }
 
-    /// Lets all records go, and keeps their memory for others.
+    /// Drops all records, and keeps their memory for others.
     pub(crate) fn clear(&mut self)
         ensures { self.new ≡ [] }
     {
@@ -161,7 +161,7 @@ impl Cut {
         self.records.len()
     }
 
-    /// Where the fields of each record stand.
+    /// Where the fields of each record are.
     pub(crate) fn records(&self) -> &[CutRecord]
         ensures { length result.now ≡ length self.now }
     {

@@ -19,7 +19,7 @@ use std::sync::Arc;
 /// The feed mask of each vertex of a graph: into which partitions of a plan it has edges. [`Graph::part_with`] makes
 /// parts by it, so that for all parts together the edges are walked over once.
 ///
-/// It takes for each vertex a byte where there are at most 8 partitions, and 8 where there are more.
+/// It takes for each vertex a byte if there are at most 8 partitions, and 8 if there are more.
 #[derive(Drop)]
 pub struct Feeds {
     masks: Arc<Masks>,
@@ -60,7 +60,7 @@ pub(crate) struct Stride {
 }
 
 impl Stride {
-    // Whether a vertex is one of them. Nothing is divided where all are.
+    // Whether a vertex is one of them. Nothing is divided if all are.
     fn has(self, y: u32) -> bool
         requires { self.first < self.step }
         ensures { result ≡ (y % self.step == self.first) }
@@ -77,7 +77,7 @@ impl Stride {
     }
 }
 
-// Marks that an edge leads from a vertex into this partition, where the vertex is one of those that have a mask.
+// Marks that an edge leads from a vertex into this partition, if the vertex is one of those that have a mask.
 fn mark_edge(feeds: &mut Masks, stride: Stride, source: u32, into: u32)
     requires stride { stride.first < stride.step }
     requires place { source % stride.step ≡ stride.first →
@@ -155,8 +155,8 @@ pub(crate) fn feeds_over(
 }
 
 impl Graph {
-    /// Into which partitions of the plan each vertex has edges. It takes one walk over the edges, and for each vertex
-    /// a byte, or 8 where there are more than 8 partitions.
+    /// Into which partitions of the plan each vertex has edges. It takes one walk over the edges, and for each vertex a
+    /// byte, or 8 if there are more than 8 partitions.
     pub fn feeds(&self, alloc: Global, plan: &Plan) -> Result<Feeds, AllocError>
         requires { plan.now.vertices ≡ self.now.graph.vertices }
         ensures { IfOk result (λ feeds. feeds ≡ feeds_of self.now.graph plan.now.parts) }

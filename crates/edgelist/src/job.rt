@@ -41,7 +41,7 @@ pub struct JobOptions {
     pub limit: u32,
     /// How the estimates of counters are made.
     pub estimate: Estimate,
-    /// What stands between the two fields of a line of the edge list.
+    /// What is between the two fields of a line of the edge list.
     pub delimiter: Delimiter,
     /// Whether up to 2^31 vertices and 2^32 - 1 records are taken, in place of 2^24 and 2^26.
     pub large: bool,

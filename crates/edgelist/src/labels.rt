@@ -9,7 +9,7 @@ use gapcode::Places;
 use std::alloc::{AllocError, Global};
 use std::marker::Model;
 
-/// Labels, one behind another, and the place where each begins. It takes 4 bytes a label beside the labels' own.
+/// Labels, one after another, and the place where each begins. It takes 4 bytes a label beside the labels' own.
 #[derive(Drop)]
 pub struct Labels {
     bytes: Vec<u8>,
@@ -46,7 +46,7 @@ fn first_start(alloc: Global, count: usize) -> Result<Places, AllocError>
     Places::with_room(alloc, count.saturating_add(1))?.push(0)
 }
 
-// Puts a copy of a text behind the others, and where it ends behind the places.
+// Puts a copy of a text after the others, and where it ends after the places.
 fn put_text(bytes: &mut Vec<u8>, starts: Places, text: &[u8]) -> Result<Places, AllocError>
     requires { Ascend (length bytes.old.items) starts }
     ensures starts { IfOk result (λ more. Ascend (length bytes.new.items) more) }
@@ -57,7 +57,7 @@ fn put_text(bytes: &mut Vec<u8>, starts: Places, text: &[u8]) -> Result<Places, 
     starts.push(bytes.len() as u128)
 }
 
-// Puts copies of texts behind one another, and tells where each of them begins and the last ends.
+// Puts copies of texts one after another, and tells where each of them begins and the last ends.
 fn put_texts(alloc: Global, bytes: &mut Vec<u8>, texts: &[Vec<u8>]) -> Result<Places, AllocError>
     requires { bytes.old.items ≡ [] }
     ensures starts { IfOk result (λ starts. Ascend (length bytes.new.items) starts) }
@@ -88,7 +88,7 @@ impl Labels {
         self.starts.len() - 1
     }
 
-    /// Label i, or an empty one where there is none.
+    /// Label i, or an empty one if there is none.
     pub fn text(&self, i: u32) -> &[u8]
         ensures { result.now ≡ slice_index_or self.now i [] }
     {

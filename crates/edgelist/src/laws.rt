@@ -18,12 +18,12 @@ pub fn labels_are_fields()
     ensures { LabelsAreFields }
 {}
 
-/// There is an edge exactly where some record leads from the one label to the other.
+/// There is an edge exactly if some record leads from the one label to the other.
 pub fn edges_are_named()
     ensures { EdgesAreNamed }
 {}
 
-/// The ends of each edge are vertices, and each edge stands once.
+/// The ends of each edge are vertices, and each edge is there once.
 pub fn edges_stand_once()
     ensures { EdgesStandOnce }
 {}

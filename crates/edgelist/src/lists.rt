@@ -88,7 +88,7 @@ impl PredLists {
         self.total
     }
 
-    /// A list between these two, before which stands about half of the codes of those between.
+    /// A list between these two; about half of the codes of those between come before it.
     pub fn middle(&self, from: usize, to: usize) -> usize
         requires order { from ≤ to }
         requires inside { to ≤ length self.now }

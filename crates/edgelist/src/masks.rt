@@ -7,7 +7,7 @@ ghost use Rattle.edgelist.specs.Feeding.{masks_of, width_of};
 
 use std::alloc::{AllocError, Global};
 
-/// Masks of 64 bits, one a vertex: in a byte each where no bit above the eighth is needed.
+/// Masks of 64 bits, one a vertex: in a byte each if no bit above the eighth is needed.
 #[derive(Drop)]
 pub(crate) enum Masks {
     Narrow(Vec<u8>),

@@ -37,7 +37,7 @@ const IN_CACHE: usize = 524_288;
 // From so many entries on a table grows by 2 and not by 4, as one with room for many more would take much memory.
 const MANY_ENTRIES: usize = 33_554_432;
 
-// The number of entries of a group: they stand side by side, most often in one line of the cache.
+// The number of entries of a group: they lie side by side, most often in one line of the cache.
 const GROUP: usize = 4;
 
 /// A short label as two numbers that no other short label has: its first 8 bytes, and the others with its length. Those of
@@ -191,8 +191,8 @@ fn decimal(text: u64) -> u64 {
     (fours >> 32) * 10_000 + (fours & 0xffff_ffff)
 }
 
-// A number by which a word's group is chosen: any will do. Labels that are numbers of at most 8 digits stand near one
-// another where these do, as edges often lead to labels near by; multiples of a power of 2 do not all stand in one
+// A number by which a word's group is chosen: any will do. Groups of labels that are numbers of at most 8 digits lie
+// near one another if the numbers do: edges often lead to labels near by. Multiples of a power of 2 are not all in one
 // group. The others are spread.
 fn spot(word: LabelWord) -> u64 {
     if word.high < 0x100 && word.low & 0x4040_4040_4040_4040 == 0 {
@@ -210,7 +210,7 @@ fn group(word: LabelWord, count: usize) -> usize {
     (spot(word) as usize & count.wrapping_sub(1)) / GROUP * GROUP
 }
 
-// The number of the short label with this word, where an entry of its group is that label's.
+// The number of the short label with this word, if an entry of its group is that label's.
 fn guess(entries: &[LabelGuess], word: LabelWord) -> Option<usize>
     ensures { (labels : List (List ℕ)) (label : List ℕ) → AreGuesses labels entries.now
         → IsShort label → word ≡ word_of label → IfSome result (StandsAt labels label) }
@@ -234,7 +234,7 @@ fn is_numbered(labels: &IndexSet<Vec<u8>, RandomState>, label: &[u8], number: us
     }
 }
 
-// The number of a long label, where an entry of its group leads to it.
+// The number of a long label, if an entry of its group leads to it.
 fn guess_long(
     labels: &IndexSet<Vec<u8>, RandomState>,
     entries: &[LabelGuess],
@@ -253,8 +253,8 @@ fn guess_long(
 }
 
 // Whether the label of a word may be new: the first entry of its group is blank. This is a guess. A label that is known
-// may be told as new, where its entry was lost; a new one is not told so where another label's entry is the first of its
-// group.
+// may be taken for new, if its entry was lost; a new one is not taken for new if another label's entry is the first of
+// its group.
 fn may_be_new(entries: &[LabelGuess], word: LabelWord) -> bool {
     let place = group(word, entries.len());
     word.high > 0 && place < entries.len() && entries[place].high == 0
@@ -269,7 +269,7 @@ fn count_new_in(entries: &[LabelGuess], row: &Row) -> usize
     usize::from(source) + usize::from(target)
 }
 
-// How many labels of these rows may be new: a guess too, in which a label that stands there twice may count twice.
+// How many labels of these rows may be new: a guess too, in which a label that is there twice may count twice.
 fn count_new(entries: &[LabelGuess], rows: &[Row]) -> usize {
     let mut new = 0usize;
     for row in rows {
@@ -340,7 +340,8 @@ fn remember(entries: &mut [LabelGuess], word: LabelWord, number: usize)
     put(entries, entry);
 }
 
-// The same for the word of a long label, whatever label that is: it leads to no short one.
+// Puts the word of a long label and a number into an entry of its group, whatever label that is: it leads to no short
+// one.
 fn remember_long(entries: &mut [LabelGuess], word: LabelWord, number: usize)
     ensures { (labels : List (List ℕ)) → AreGuesses labels entries.old →
         AreGuesses labels entries.new }
@@ -382,7 +383,7 @@ fn find(labels: &IndexSet<Vec<u8>, RandomState>, label: &[u8]) -> Option<usize>
     labels.get_index_of(label)
 }
 
-// Puts a label into the set, at the end where it is new, and tells its number.
+// Puts a label into the set, at the end if it is new, and tells its number.
 fn insert(
     alloc: Global,
     labels: &mut IndexSet<Vec<u8>, RandomState>,
@@ -413,7 +414,7 @@ impl Numbering {
         self.labels.len()
     }
 
-    /// The number of a label, which takes the next one where it is new. For a label that is known no memory is taken.
+    /// The number of a label, which takes the next one if it is new. For a label that is known no memory is taken.
     pub(crate) fn number(
         &mut self,
         alloc: Global,
@@ -490,7 +491,7 @@ impl Numbering {
         Ok(number)
     }
 
-    // The number of a label by the set, which it is put into where it is new.
+    // The number of a label by the set, which it is put into if it is new.
     fn look_up(&mut self, alloc: Global, label: &[u8]) -> Result<usize, AllocError>
         ensures found { IfOk result (StandsAt self.new label.now) }
         ensures labels { OnOk result (self.new ≡ with_label self.old label.now) }
@@ -503,7 +504,7 @@ impl Numbering {
         }
     }
 
-    // Puts a label into the set. The table of guesses grows first where it has no room for it, and is left as it is where
+    // Puts a label into the set. The table of guesses grows first if it has no room for it, and is left as it is if
     // memory for a larger one is refused: then some guesses are lost, and the set tells those numbers.
     fn insert_new(&mut self, alloc: Global, label: &[u8]) -> Result<usize, AllocError>
         ensures found { IfOk result (StandsAt self.new label.now) }
@@ -514,8 +515,8 @@ impl Numbering {
         insert(alloc, &mut self.labels, label)
     }
 
-    /// Looks at the first entry for each label of these rows, and makes room for as many as have a blank one there.
-    /// No look waits for another. Where memory is refused, the table is left as it is.
+    /// Looks at the first entry for each label of these rows, and makes room for as many as have a blank one there. No
+    /// look waits for another. If memory is refused, the table is left as it is.
     pub(crate) fn look_ahead(&mut self, alloc: Global, rows: &[Row])
         ensures { self.new ≡ self.old }
     {
@@ -535,7 +536,7 @@ impl Numbering {
         }
     }
 
-    // A larger table, where there would be more labels than entries with so many new ones.
+    // A larger table, if there would be more labels than entries with so many new ones.
     fn make_room(&mut self, alloc: Global, new: usize) -> Result<(), AllocError>
         ensures { self.new ≡ self.old }
     {
@@ -548,7 +549,7 @@ impl Numbering {
         Ok(())
     }
 
-    /// The labels in one piece of memory. The guesses are let go before it is asked for.
+    /// The labels in one piece of memory. The guesses are dropped before it is asked for.
     pub(crate) fn into_labels(self, alloc: Global) -> Result<Labels, AllocError>
         ensures labels { IfOk result (λ labels. labels ≡ self) }
         ensures distinct { IfOk result (λ labels. IsDistinct bytes_eq labels) }

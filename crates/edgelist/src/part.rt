@@ -1,4 +1,4 @@
-//! What a partition is told of its graph.
+//! What a partition has of its graph.
 
 ghost use Rattle.std.specs.Prelude.{◌≡◌, ◌+◌, ◌*◌, ◌^◌, ◌<◌, ◌≤◌, ◌++◌, ◌∷◌, [], ℕ, false};
 ghost use Rattle.std.specs.Prelude.{length, map, slice_index, slice_index_or, IfOk, OnOk};
@@ -22,12 +22,12 @@ use std::alloc::{AllocError, Global};
 use std::marker::Model;
 use std::sync::Arc;
 
-/// What a partition is told of its graph: the predecessors of each of its vertices, into which partitions the vertex
-/// has edges, and whether it is counted. It has no other partition's lists, and where there is one partition it shares
-/// those of the graph, and the masks that it is made by.
+/// What a partition has of its graph: the predecessors of each of its vertices, into which partitions the vertex has
+/// edges, and whether it is counted. It has no other partition's lists, and if there is one partition it shares those
+/// of the graph, and the masks that it is made by.
 ///
-/// Beside the lists it takes for each vertex a byte for the mask where there are at most 8 partitions, and 8 where
-/// there are more; and one for whether it is counted.
+/// Beside the lists it takes for each vertex a byte for the mask if there are at most 8 partitions, and 8 if there are
+/// more; and one for whether it is counted.
 #[derive(Drop)]
 pub struct Part {
     plan: Plan,
@@ -106,8 +106,8 @@ impl Part {
         self.lists.list(i as usize)
     }
 
-    /// A vertex between those with these two indexes, where the work on their predecessors is cut in two: before it stands
-    /// about half of what codes these. It takes time as the number of digits of the vertices between.
+    /// A vertex between those with these two indexes, at which the work on their predecessors is cut in two: about half
+    /// of their codes come before it. It takes time as the number of digits of the vertices between.
     pub fn middle(&self, from: u32, to: u32) -> u32
         requires order { from ≤ to }
         requires inside { to ≤ length self.now.preds }
@@ -125,7 +125,7 @@ impl Part {
         self.lists.total()
     }
 
-    /// The feed mask of the vertex with this index: bit r is set where it has an edge into partition r.
+    /// The feed mask of the vertex with this index: bit r is set if it has an edge into partition r.
     pub fn feeds(&self, i: u32) -> u64
         requires { i < length self.now.preds }
         ensures value { result ≡ slice_index self.now.feeds i }
@@ -135,7 +135,7 @@ impl Part {
         self.feeds.get(i as usize)
     }
 
-    /// The same of a plan with another job digest.
+    /// This part, of a plan with another job digest.
     pub fn with_job(self, job: [u8; 32]) -> Part
         ensures { result ≡ record self { plan = record self.plan { job = job } } }
     {
@@ -176,7 +176,7 @@ fn put_preds(row: &mut Vec<u32>, preds: Preds<'_>) -> Result<(), AllocError>
     Ok(())
 }
 
-// The lists with these predecessors behind them; the row is room for the predecessors.
+// The lists with these predecessors after them; the row is room for the predecessors.
 fn push_preds(
     builder: ListsBuilder,
     row: &mut Vec<u32>,
@@ -209,7 +209,7 @@ fn own_lists(alloc: Global, graph: &Graph, plan: &Plan, p: u16) -> Result<PredLi
     Ok(PredLists::of(builder.finish(), total))
 }
 
-// The predecessors of each vertex of partition `p`, which are the graph's own lists where there is one partition.
+// The predecessors of each vertex of partition `p`, which are the graph's own lists if there is one partition.
 fn part_lists(
     alloc: Global,
     graph: &Graph,
@@ -258,7 +258,7 @@ fn own_masks(alloc: Global, all: &Masks, plan: &Plan, p: u16) -> Result<Masks, A
     }
 }
 
-// The masks that the vertices of partition `p` have, which are all of them where there is one partition.
+// The masks that the vertices of partition `p` have, which are all of them if there is one partition.
 fn part_feeds(alloc: Global, feeds: &Feeds, plan: &Plan, p: u16) -> Result<Arc<Masks>, AllocError>
     requires part { p < plan.now.parts }
     requires count { length feeds.now ≡ plan.now.vertices }
@@ -333,10 +333,9 @@ fn part_by(
 }
 
 impl Graph {
-    /// What partition `p` of the plan is told. It takes time in proportion to the vertices and edges, since it walks
+    /// The part of partition `p` of the plan. It takes time in proportion to the vertices and edges, since it walks
     /// over all edges for the masks, and memory in proportion to those of the partition: beside the lists 2 bytes a
-    /// vertex of it, or 9 where there are more than 8 partitions. The lists of a sole partition are shared and take
-    /// none.
+    /// vertex of it, or 9 if there are more than 8 partitions. The lists of a sole partition are shared and take none.
     pub fn part(&self, alloc: Global, plan: &Plan, p: u16) -> Result<Part, AllocError>
         requires below { p < plan.now.parts }
         requires vertices { plan.now.vertices ≡ self.now.graph.vertices }
@@ -348,9 +347,10 @@ impl Graph {
         part_by(alloc, self, plan, p, feeds)
     }
 
-    /// The same by the masks of all vertices ([`Graph::feeds`]), which one walk over the edges makes for all parts. It
-    /// takes time in proportion to the vertices of the partition and the edges to them, and as much memory. The masks
-    /// of a sole partition are shared too. The plan's digest is not looked at: [`Part::with_job`] puts one in its place.
+    /// The part of partition `p` of the plan, by the masks of all vertices ([`Graph::feeds`]), which one walk over the
+    /// edges makes for all parts. It takes time in proportion to the vertices of the partition and the edges to them,
+    /// and as much memory. The masks of a sole partition are shared too. The plan's digest is not looked at:
+    /// [`Part::with_job`] puts one in its place.
     pub fn part_with(
         &self,
         alloc: Global,

@@ -15,7 +15,7 @@ use crate::row::{AT_ONCE, Row, rows_for};
 use ball_model::CountedRead;
 use std::alloc::{AllocError, Global};
 
-/// So many bytes the first piece of a round waits for, also where there are records to be added meanwhile.
+/// So many bytes the first piece of a round waits for, also if there are records to be added meanwhile.
 pub(crate) const LEAST: usize = 16_384;
 
 // So many are asked for by one read, at most.
@@ -26,7 +26,7 @@ const ROOM: usize = 65_536;
 pub(crate) struct Amount {
     /// So many, also if the next ones may not be there yet.
     pub(crate) least: usize,
-    /// So many, or some more, where the reader gives them at once.
+    /// So many, or some more, if the reader gives them at once.
     pub(crate) most: usize,
 }
 
@@ -106,7 +106,7 @@ fn fill<S: CountedRead>(
     Ok(Gives::Much)
 }
 
-// Where the last line ends that an LF ends, or 0 where there is none.
+// Where the last line ends that an LF ends, or 0 if there is none.
 fn last_end(lines: &[u8]) -> usize
     ensures within { result ≤ length lines.now }
     ensures ends { EndsLine (take result lines.now) }
@@ -121,7 +121,7 @@ fn last_end(lines: &[u8]) -> usize
     0
 }
 
-// Puts what stands after a line's end, and its LF, in place of what was held, and keeps the lines before.
+// Puts what is after a line's end, and its LF, in place of what was held, and keeps the lines before.
 fn hold_from(lines: &mut Vec<u8>, held: &mut Vec<u8>, end: usize) -> Result<(), AllocError>
     requires { end ≤ length lines.old.items }
     ensures front { OnOk result (lines.new.items ≡ take end lines.old.items) }
@@ -179,8 +179,8 @@ impl Piece {
     }
 
     /// Takes lines that are held and so many bytes of a reader in place of its own lines, or none if no line ends among
-    /// these; what stands after the last line's end is held then. A line that is longer than that takes more. It tells
-    /// what the last call of the reader gave.
+    /// these; what is after the last line's end is held then. A line that is longer than that takes more. It tells what
+    /// the last call of the reader gave.
     pub(crate) fn fill<S: CountedRead>(
         &mut self,
         reader: &mut S,
@@ -217,7 +217,7 @@ impl Piece {
         Ok(gives)
     }
 
-    /// Takes lines as [`Piece::fill`] does, where the reader may have more at once, and else none.
+    /// Takes lines as [`Piece::fill`] does, if the reader may have more at once, and else none.
     pub(crate) fn fill_more<S: CountedRead>(
         &mut self,
         reader: &mut S,
@@ -294,7 +294,7 @@ impl Piece {
         reading.read_lines(alloc, &mut rows, lines, number, limits)
     }
 
-    /// Adds its records, which follow `number` others, and tells how many there are then: by their fields, where they are
+    /// Adds its records, which follow `number` others, and tells how many there are then: by their fields, if they are
     /// cut and the limits leave room for all of them, and else by reading the lines anew.
     pub(crate) fn add_to(
         &self,

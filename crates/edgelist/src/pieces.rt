@@ -30,7 +30,7 @@ pub struct EdgeReader {
     number: u64,
     // the room for those that are read at once
     rows: Vec<Row>,
-    // the bytes that were given and not read, after an LF where others were read before
+    // the bytes that were given and not read, after an LF if others were read before
     lines: Vec<u8>,
     // what was refused before
     failed: Option<EdgeError>,
@@ -44,7 +44,7 @@ pub struct EdgeReader {
         reading.labels reading.edges.items } by { Prim.hlevel props },
 }
 
-// Written out, and so one call wherever one is let go: the checker reads a derived one again at each place.
+// Written out, and so one call wherever one is dropped: the checker reads a derived one again at each place.
 impl Drop for EdgeReader {
     fn drop(self) {
         let EdgeReader {

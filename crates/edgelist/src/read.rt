@@ -65,7 +65,7 @@ impl From<csv::Error> for EdgeError {
     }
 }
 
-/// What stands between the fields of a record.
+/// What is between the fields of a record.
 #[derive(Clone, Copy, Debug, PartialEq, Eq)]
 pub enum Delimiter {
     /// A horizontal tab, the byte 9.
@@ -205,7 +205,7 @@ impl<'a, R: CountedRead> Read for Counted<'a, R> {
     }
 }
 
-// What is answered of an edge list that was read: `Read` where a call of the reader failed, and nowhere else.
+// What is answered of an edge list that was read: `Read` if a call of the reader failed, and at no other time.
 pub(crate) fn read_answer(
     read: Result<EdgeList, EdgeError>,
     failed: bool,
@@ -269,9 +269,9 @@ fn read_counted<R: CountedRead>(
 /// bytes, and nothing is trimmed. Two fields are an edge from the first to the second, and one field declares a vertex.
 /// The limits in force are never above 2^24 vertices and 2^26 records.
 ///
-/// The errors are those of the first record where a check fails, in the order `TooManyEdges`, `Fields`,
-/// `TooManyVertices`. `Read` is answered if a call of the reader failed (while failures can be counted), and at no other
-/// time.
+/// The errors are those of the first record at which a check fails, in the order `TooManyEdges`, `Fields`,
+/// `TooManyVertices`. `Read` is answered if a call of the reader failed (while failures can be counted), and at no
+/// other time.
 ///
 /// Its parts are made so, and no clause of this call says it: at most one record more than the limit is asked for, a
 /// label that is known takes no memory of its own, and a call of the reader that failed is not made again.

@@ -35,7 +35,7 @@ use std::thread::Threads;
 // The entries of so many records are looked at at once.
 const AHEAD: usize = 32;
 
-/// Some lines of an edge list, and what stands between the fields of each.
+/// Some lines of an edge list, and what is between the fields of each.
 #[derive(Clone, Copy)]
 pub(crate) struct Lines<'a> {
     pub(crate) bytes: &'a [u8],
@@ -55,7 +55,7 @@ pub(crate) struct Reading {
     edges: Vec<Edge>,
 }
 
-// Written out, and so one call wherever one is let go: the checker reads a derived one again at each place.
+// Written out, and so one call wherever one is dropped: the checker reads a derived one again at each place.
 impl Drop for Reading {
     fn drop(self) {
         let Reading {
@@ -315,7 +315,7 @@ impl Reading {
         let _room = self.edges.reserve(count);
     }
 
-    // Looks at the entries of the labels of the records from i on, where i is the first of so many.
+    // Looks at the entries of the labels of the records from i on, if i is the first of so many.
     fn look_ahead_from(&mut self, alloc: Global, cut: &Cut, i: usize)
         ensures labels { self.new.labels ≡ self.old.labels }
         ensures edges { self.new.edges.items ≡ self.old.edges.items }
@@ -362,9 +362,9 @@ impl Reading {
         self.room_for(count, number, limits) >= count
     }
 
-    // `most`, where so many records of the right form can be added after `number` others without passing a limit,
-    // even if all their labels are new and differ; and else 0. Then records are read and added one at a time, so that
-    // none is asked for after the one that is refused.
+    // `most`, if so many records of the right form can be added after `number` others without passing a limit, even if
+    // all their labels are new and differ; and else 0. Then records are read and added one at a time, so that none is
+    // asked for after the one that is refused.
     fn room_for(&self, most: usize, number: u64, limits: EdgeLimits) -> usize
         requires number { number ≤ limits.edges }
         requires labels { length self.now.labels ≤ limits.vertices }

@@ -142,7 +142,7 @@ fn pieces_for(alloc: Global, delimiter: Delimiter, count: usize) -> Result<Vec<P
 #[derive(Drop)]
 pub(crate) struct Rounds<'a, R, W> {
     pub(crate) rt: &'a R,
-    /// It is told how many records were added after each round.
+    /// It is called after each round with how many records were added so far, once there are some.
     pub(crate) watch: &'a W,
     pub(crate) delimiter: Delimiter,
     pub(crate) limits: EdgeLimits,
@@ -199,6 +199,13 @@ impl<'a, R: AllocGlobal + Threads + Sync, W: Watch> Rounds<'a, R, W> {
 }
 
 impl<'a, R: AllocGlobal + Threads + Sync, W: Watch> Rounds<'a, R, W> {
+    // Calls the watch with how many records were added, once there are some.
+    fn tell(&self, number: u64) {
+        if number > 0 {
+            self.watch.while_read(number);
+        }
+    }
+
     // Fills and cuts pieces while the records of others are added. Tells how many records there are then, and what the
     // last call of the reader gave.
     fn take_turn<S: CountedRead>(
@@ -236,7 +243,7 @@ impl<'a, R: AllocGlobal + Threads + Sync, W: Watch> Rounds<'a, R, W> {
         let size = self.size.min(size_after(number));
         let gives = fill_pieces(coming, reader, held, self.delimiter, size)?;
         let n = self.add_and_cut(reading, number, pieces, coming)?;
-        self.watch.while_read(n);
+        self.tell(n);
         Ok((n, gives))
     }
 
@@ -336,8 +343,8 @@ impl<'a, R: AllocGlobal + Threads + Sync, W: Watch> Rounds<'a, R, W> {
     /// no other time.
     ///
     /// Up to two rounds of pieces are asked for beyond the record that is refused. If a read fails there, `Read` is
-    /// answered. A piece takes some 48 bytes a record beside its bytes and those of
-    /// its fields, and room to grow: 1 MiB where lines have some twelve bytes, and up to 7 MiB where they have two.
+    /// answered. A piece takes some 48 bytes a record beside its bytes and those of its fields, and room to grow: 1 MiB
+    /// if lines have some twelve bytes, and up to 7 MiB if they have two.
     pub(crate) fn read<S: CountedRead>(
         &self,
         state: RandomState,

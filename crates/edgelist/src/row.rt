@@ -43,7 +43,7 @@ impl Model for Row {
         × row.formed ≡ has_form (fields_of row.fields) };
 }
 
-// The first field of a record and its second, where it has one or two and none is empty.
+// The first field of a record and its second, if it has one or two and none is empty.
 fn fields_in<'a>(row: &'a ByteRecord) -> Option<(&'a [u8], Option<&'a [u8]>)>
     ensures fields { IfSome result (λ r.
         fields_of row.now ≡ fields_with r.0.now (option_copied r.1)) }
@@ -122,7 +122,7 @@ impl Row {
         read
     }
 
-    /// The first field and the second, where it has the form of a record.
+    /// The first field and the second, if it has the form of a record.
     pub(crate) fn labels<'a>(&'a self) -> Option<(&'a [u8], Option<&'a [u8]>)>
         ensures fields { IfSome result (λ r. self.now ≡ fields_with r.0.now (option_copied r.1)) }
         ensures form { OnSome result (has_form self.now ≡ true) }

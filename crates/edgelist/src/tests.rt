@@ -126,10 +126,10 @@ fn hash(pieces: Pieces<'_>) -> [u8; 32] {
     hasher.finalize()
 }
 
-/// What is told of an edge list: the hash of its graph's lines, or an error.
+/// What an edge list is read as: the hash of its graph's lines, or an error.
 type Told = Result<[u8; 32], EdgeError>;
 
-/// What is told of an edge list that a reader gives.
+/// What an edge list that a reader gives is read as.
 fn told(rt: &HostRuntime, reader: Stepping<'_>, delimiter: Delimiter, limits: EdgeLimits) -> Told {
     match read(rt, reader, delimiter, limits) {
         Ok(graph) => Ok(shown(&graph)),
@@ -137,7 +137,7 @@ fn told(rt: &HostRuntime, reader: Stepping<'_>, delimiter: Delimiter, limits: Ed
     }
 }
 
-/// What should be told, with the lines in pieces.
+/// What is wanted, with the lines in pieces.
 fn told_of(wanted: Result<Pieces<'_>, EdgeError>) -> Told {
     match wanted {
         Ok(lines) => Ok(hash(lines)),
@@ -154,7 +154,7 @@ fn are_preds(mut preds: Preds<'_>, wanted: &[u32]) -> bool {
     right && preds.next() == None
 }
 
-/// Counts just the vertices of a list, where there is one, and tells whether that was done.
+/// Counts just the vertices of a list, if there is one, and tells whether that was done.
 fn count(alloc: Global, graph: &mut Graph, list: Option<&[u8]>) -> bool {
     match list {
         Some(list) => graph.count_only(alloc, Delimiter::Tab, list) == Ok(()),

@@ -11,7 +11,7 @@ pub trait Watch {
     /// The edge list is read, of so many records and vertices.
     fn after_read(&self, _records: u64, _vertices: u32) {}
 
-    /// The node stands at superstep 0.
+    /// The node is at superstep 0.
     fn after_start(&self, _node: NodeId) {}
 
     /// The node has gone on to the superstep, at which so many of its partition's vertices changed, and how many it has

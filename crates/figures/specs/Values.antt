@@ -38,7 +38,7 @@ pub record PiecesDifferAt (places : List ℕ) (count pieces : ℕ) (old new : Li
   pub same : (k : ℕ) → k < pieces → ((j : ℕ) → j < count → slice_index places j ≢ k) →
       chunk (k * 32) 32 old ≡ chunk (k * 32) 32 new
 
--- the fields of an estimator: 16 to 1024 registers, and what small sets are estimated at where they are corrected
+-- the fields of an estimator: 16 to 1024 registers, and what small sets are estimated at if they are corrected
 pub record IsEstimator (log2m : ℕ) (corrected : Bool) (small : List ℕ) : Type 0 where
   pub low : 4 ≤ log2m
   pub high : log2m ≤ 10

@@ -70,7 +70,7 @@ pub fn final_figures(
         .collect(rt, alloc)
 }
 
-// How many vertices a piece has at least, where so many are dealt out. Then there are no more pieces than threads; where 0
+// How many vertices a piece has at least, if so many are dealt out. Then there are no more pieces than threads; if 0
 // are asked for, each piece is worth a thread, and there may be as many as the processors take.
 fn least_piece(count: usize, threads: usize) -> usize
     ensures worth { LEAST_PIECE ≤ result }
@@ -85,7 +85,7 @@ fn least_piece(count: usize, threads: usize) -> usize
 /// Those of the vertices at some of the places, as far as there are such: for callers that have no room for all. Here the
 /// estimate is the tally's last one, raw or corrected, as it was stepped by.
 ///
-/// The work is dealt out to at most so many threads; where 0 are asked for, to as many as there are processors.
+/// The work is dealt out to at most so many threads; if 0 are asked for, to as many as there are processors.
 pub fn figures_within(
     rt: &(impl Threads + Sync),
     alloc: Global,

@@ -35,7 +35,7 @@ pub fn are_last(log2m: u8, is_corrected: bool, rows: &Rows, tallies: &[Tally]) -
     are_by_table(log2m, is_corrected, table, rows, tallies)
 }
 
-// The same, where what small sets are estimated at is read off a table.
+// Whether the last estimate of each tally is that of its row. What small sets are estimated at is read off a table.
 fn are_by_table(
     log2m: u8,
     is_corrected: bool,

@@ -9,7 +9,7 @@ use std::ops::Range;
 use std::test::Fail;
 use std::thread::Threads;
 
-// The estimate of a row, where it is one of 2^log2m ranks.
+// The estimate of a row, if it is one of 2^log2m ranks.
 fn estimate_in(log2m: u8, row: &[u8]) -> Option<u64> {
     let is_size = (4..=10).contains(&log2m);
     if is_size && row.len() == 1 << log2m && row.iter().all(|register| *register <= 33) {
@@ -46,7 +46,7 @@ fn one_vertex_among_128_registers(rt: HostRuntime) {
     assert_eq!(rt; estimate_in(7, &row), Some(92_230_136));
 }
 
-// Of a counter that becomes another one, where both are of 2^log2m ranks: its weight and its raw estimate, before and
+// Of a counter that becomes another one, if both are of 2^log2m ranks: its weight and its raw estimate, before and
 // after.
 fn carried(alloc: Global, log2m: u8, old: &[u8], new: &[u8]) -> Option<[u64; 4]> {
     let is_size = (4..=10).contains(&log2m);
@@ -105,7 +105,7 @@ fn numbers_of(tally: Tally) -> (u64, u64, u128) {
     (tally.last, tally.harm, tally.dist)
 }
 
-// The numbers of a vertex behind two others, as it starts and after each of three steps.
+// The numbers of a vertex after two others on a path, as it starts and after each of three steps.
 fn numbers_of_steps() -> [(u64, u64, u128); 4] {
     let mut tally = Tally::start(11_297_573);
     let alone = numbers_of(tally);
@@ -148,7 +148,7 @@ fn greatest_step(rt: HostRuntime) {
     );
 }
 
-// The first sum of distances of a table of which another closeness is told.
+// The first sum of distances of a table that has another closeness.
 fn first_other_closeness() -> Option<u128> {
     let table = [
         (0, 0),
@@ -160,7 +160,7 @@ fn first_other_closeness() -> Option<u128> {
     wrong.map(|(dist, _)| *dist)
 }
 
-// The first estimate and sum of distances of a table of which another index is told.
+// The first estimate and sum of distances of a table that have another index.
 fn first_other_index() -> Option<(u64, u128)> {
     let table = [
         (11_390_942, 0, 1_000_000),

@@ -21,7 +21,7 @@ bits_of bytes = flat_map (digits 8) bytes
 abbrev pub bits_from : List ℕ → ℕ → List Bool
 bits_from bytes place = drop place (bits_of bytes)
 
--- the bits of whole bytes, and the lowest `used` of a byte behind them
+-- the bits of whole bytes, and the lowest `used` of a byte after them
 abbrev pub bits_with : List ℕ → ℕ → ℕ → List Bool
 bits_with full last used = bits_of full ++ digits used last
 
@@ -46,7 +46,7 @@ log2 x = log2_below most_digits x
 unfoldable pub gamma : ℕ → List Bool
 gamma x = replicate (log2 x) false ++ digits (log2 x + 1) x
 
--- how many zero bits stand in front
+-- how many zero bits are in front
 unfoldable pub zeros : List Bool → ℕ
 zeros [] = 0
 zeros (true ∷ bits) = 0
@@ -62,7 +62,7 @@ gamma_at bits =
       drop (2 * zeros bits + 1) bits,
     )
 
--- where a reader stands in its bits
+-- where a reader is in its bits
 pub record Place : Type 0 where
   pub bits : List Bool
   pub position : ℕ

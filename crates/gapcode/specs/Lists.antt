@@ -92,7 +92,7 @@ all_of bound count bytes = do
   none ← end_at lists.1
   Ok lists.0
 
--- it is what the reading gives, or memory was refused where the reading gives lists
+-- it is what the reading gives, or memory was refused if the reading gives lists
 abbrev pub GivesOrMemory :
     Result (List (List ℕ)) CodeError → Result (List (List ℕ)) CodeError → Type 0
 GivesOrMemory (Ok lists) due = Ok lists ≡ due
@@ -130,11 +130,11 @@ elements_from bytes place n least = elements_of n least (drop place (bits_of byt
 abbrev pub read_list : List Bool → List ℕ
 read_list bits = values (list_at beyond bits)
 
--- this list, and the bits behind it, begin at the place
+-- this list, and the bits after it, begin at the place
 abbrev pub BeginsAt : List ℕ → ℕ → List ℕ × List Bool → Type 0
 BeginsAt bytes place list = list_at beyond (drop place (bits_of bytes)) ≡ Ok list
 
--- these lists, and the bits behind them, are the first of the bytes
+-- these lists, and the bits after them, are the first of the bytes
 abbrev pub BeginWith : List ℕ → ℕ → List (List ℕ) × List Bool → Type 0
 BeginWith bytes count lists = lists_at beyond count (bits_of bytes) ≡ Ok lists
 

@@ -3,7 +3,7 @@ use Rattle.std.specs.Prelude.{ℕ, ◌+◌, ◌*◌, ◌<◌, nat_le, List, [], 
 use Rattle.std.specs.List.{AllByRecursion, count_by}
 use Rattle.gapcode.specs.Lists.{beyond}
 
--- how many of the marks stand at entry i or before
+-- how many of the marks are at entry i or before
 abbrev pub marks_up_to : ℕ → List ℕ → ℕ
 marks_up_to i marks = count_by (λ mark. nat_le mark i) marks
 

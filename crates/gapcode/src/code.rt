@@ -22,7 +22,7 @@ fn shifted_word(nine: &[u8], shift: u32) -> u64
     (word << shift) | ((nine[8] as u64) >> (8 - shift))
 }
 
-// At most nine bytes, with zeros behind them.
+// At most nine bytes, with zeros after them.
 fn padded(tail: &[u8]) -> [u8; 9]
     requires { length tail.now ≤ 9 }
     ensures { result ≡ tail.now ++ replicate (9 - length tail.now) 0 }

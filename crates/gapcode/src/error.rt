@@ -12,7 +12,7 @@ pub enum CodeError {
     /// The bits end before the code does.
     #[error("the bits end within a code")]
     Ended,
-    /// 64 zero bits stand where a code has to begin.
+    /// 64 zero bits come where a code has to begin.
     #[error("a number has more than 64 bits")]
     TooLong,
     /// A list has more elements than there are numbers below the bound, or an element that is not below it.
@@ -21,10 +21,10 @@ pub enum CodeError {
     /// A bit after the last list, up to the next whole byte, is set.
     #[error("a bit of the padding is set")]
     Padding,
-    /// A whole byte stands after the padding.
+    /// A whole byte follows the padding.
     #[error("bytes after the last list")]
     Trailing,
-    /// Memory was refused. It is told only where the bytes pass all checks.
+    /// Memory was refused. It is answered only if the bytes pass all checks.
     #[error("out of memory")]
     Memory,
 }

@@ -8,7 +8,7 @@ pub fn code_is_read()
     ensures { CodeIsRead }
 {}
 
-/// No code begins another, so codes may stand one behind another.
+/// No code begins another, so codes may follow one another.
 pub fn codes_are_prefix_free()
     ensures { CodesArePrefixFree }
 {}

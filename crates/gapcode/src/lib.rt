@@ -7,7 +7,7 @@
 //! [`Lists::bytes`] and [`Lists::read`] are the one spelling of lists as bytes, both ways.
 //!
 //! Below them, [`BitWriter`] with [`put_gamma`] and [`BitReader`] with [`get_gamma`] write and read single codes, and
-//! [`Places`] keeps where each of many pieces begins that stand one after another.
+//! [`Places`] keeps where each of many pieces begins that lie one after another.
 //!
 //! ```text
 //! let lists = ListsBuilder::with_room(alloc, 1)?.push(&[0, 2, 5])?.finish();

@@ -72,8 +72,8 @@ impl Lists {
         Elements::at(&self.bytes, self.places.at(i))
     }
 
-    /// A list between these two, before which stands about half of the bits of those between: where work on them is cut
-    /// in two. It looks at as many places as the number of lists between has binary digits.
+    /// A list between these two; about half of the bits of those between come before it: there work on them is cut in
+    /// two. It looks at as many places as the number of lists between has binary digits.
     pub fn middle(&self, from: usize, to: usize) -> usize
         requires order { from ≤ to }
         requires inside { to ≤ length self.now }
@@ -93,12 +93,12 @@ impl Lists {
 
     /// The lists that these bytes spell: so many of them, of numbers below the bound.
     ///
-    /// The first fault from the left is answered: `Ended`, `TooLong` and `Range` by the place of reading, then `Padding`,
-    /// `Trailing` and, where all checks passed, `Memory`. For a library's user: the program does not call it.
+    /// The first fault from the left is answered: `Ended`, `TooLong` and `Range` by the place of reading, then
+    /// `Padding`, `Trailing` and, if all checks passed, `Memory`. For a library's user: the program does not call it.
     pub fn read(alloc: Global, bytes: &[u8], count: usize, bound: u32) -> Result<Lists, CodeError>
         // What is found is spelled by the bytes, and so many lists of numbers below the bound.
         ensures found { IfOk result (λ lists. AreSpelled bound count bytes.now lists) }
-        // Where the bytes spell such lists, those are found, or memory was refused.
+        // If the bytes spell such lists, those are found, or memory was refused.
         ensures only { (lists : List (List ℕ)) → AreSpelled bound count bytes.now lists
             → GivesOrMemory result (Ok lists) }
         // Which refusal it is.

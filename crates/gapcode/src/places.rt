@@ -8,7 +8,7 @@ ghost use Rattle.gapcode.specs.Places.{marks_up_to};
 use std::alloc::{AllocError, Global};
 use std::marker::Model;
 
-/// Ascending places below 2^96: the bits or bytes at which pieces begin that stand one after another.
+/// Ascending places below 2^96: the bits or bytes at which pieces begin that lie one after another.
 ///
 /// A place takes 4 bytes, for its lowest 32 bits. Beside them is a mark of 8 bytes for each 2^32 that the last place has
 /// passed.
@@ -29,7 +29,7 @@ impl Model for Places {
     ghost invariant = { λ p. AreMarks p.lows.items p.marks.items };
 }
 
-// How many marks stand at entry i or before.
+// How many marks are at entry i or before.
 fn passed_by(marks: &[usize], i: usize) -> usize
     ensures { result ≡ marks_up_to i marks.now }
 {
@@ -75,7 +75,7 @@ impl Places {
         self.lows.len()
     }
 
-    /// Place i. It looks at all marks; there is none where all places are below 2^32.
+    /// Place i. It looks at all marks; there is none if all places are below 2^32.
     pub fn at(&self, i: usize) -> u128
         requires { i < length self.now }
         ensures { result ≡ slice_index self.now i }

@@ -12,7 +12,7 @@ use std::marker::Model;
 
 /// Reads the bits of bytes, the most significant of a byte first.
 ///
-/// A model has all bits, and the place of the next one, from 0.
+/// A model has all bits, and the place of the next one, from 0. For a library's user: the program does not call it.
 #[derive(Drop)]
 pub struct BitReader<'a> {
     bytes: &'a [u8],
@@ -38,7 +38,7 @@ impl<'a> BitReader<'a> {
         BitReader { bytes, place: 0 }
     }
 
-    /// The place of the next bit: how many bits stand before it.
+    /// The place of the next bit: how many bits are before it.
     pub fn position(&self) -> u128
         ensures value { result ≡ self.now.position }
         ensures inside { result ≤ length self.now.bits }
@@ -77,15 +77,15 @@ fn take_code(reader: &mut BitReader<'_>) -> Result<u64, CodeError>
 
 /// The number whose gamma code comes next (Elias 1975).
 ///
-/// It is `TooLong` where 64 zero bits come next, else `Ended` where no whole code does; either leaves the reader
-/// where it was. For a library's user: the program does not call it.
+/// It is `TooLong` if 64 zero bits come next, else `Ended` if no whole code does; either leaves the reader where it
+/// was. For a library's user: the program does not call it.
 pub fn get_gamma(reader: &mut BitReader<'_>) -> Result<u64, CodeError>
     // What is found is the code that comes next, and the reader moves past it.
     ensures found { IfOk result (λ x. rest reader.old ≡ gamma x ++ rest reader.new) }
     ensures number { IfOk result (λ x. (0 < x) × (x < 2 ^ 64)) }
     ensures moved { IfOk result (λ x.
         reader.new.position ≡ reader.old.position + length (gamma x)) }
-    // Where a code comes next it is found.
+    // If a code comes next it is found.
     ensures only { (x : ℕ) (more : List Bool) → 0 < x → x < 2 ^ 64
         → rest reader.old ≡ gamma x ++ more → result ≡ Ok x }
     // Which fault it is.

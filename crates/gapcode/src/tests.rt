@@ -7,7 +7,7 @@ mod refusals;
 use super::*;
 use std::alloc::{AllocError, Global};
 
-/// The lists [], [0] and [1], one behind another.
+/// The lists [], [0] and [1], one after another.
 const THREE: [u8; 2] = [0xaa, 0x40];
 
 /// A list of two: 0, and 2^64 - 1 further on.
@@ -96,7 +96,7 @@ fn three(alloc: Global) -> Result<ListsBuilder, AllocError> {
         .push(&[1])
 }
 
-// Whether they are written one behind another.
+// Whether they are written one after another.
 fn three_are_written(alloc: Global) -> Result<bool, AllocError> {
     Ok(three(alloc)?.finish().bytes() == THREE.as_slice())
 }
@@ -111,12 +111,12 @@ fn three_are_read(alloc: Global) -> Result<bool, CodeError> {
     Ok(are_three(&Lists::read(alloc, &THREE, 3, 2)?))
 }
 
-// How many lists there are of no bytes, where none are wanted.
+// How many lists there are in no bytes, if none are wanted.
 fn count_of_none(alloc: Global) -> Result<usize, CodeError> {
     Ok(Lists::read(alloc, &[], 0, 0)?.len())
 }
 
-// Whether three lists, and none, stand behind one another and are read.
+// Whether three lists, and none, are written one after another and are read.
 fn are_behind_one_another(alloc: Global) -> Result<bool, CodeError> {
     Ok(three_are_written(alloc)? && three_are_read(alloc)? && count_of_none(alloc)? == 0)
 }
@@ -309,7 +309,7 @@ fn one_code_is_written(rt: HostRuntime) {
     assert_eq!(rt; four_is_coded(rt.alloc()), Ok(true));
 }
 
-// Whether these are the first two bits of bytes, and the reader is at this place behind them.
+// Whether these are the first two bits of bytes, and the reader is at this place after them.
 fn bits_are(bytes: &[u8], wanted: [Option<bool>; 2], place: u128) -> bool {
     let mut reader = BitReader::new(bytes);
     [reader.bit(), reader.bit()] == wanted && reader.position() == place
@@ -320,7 +320,7 @@ fn bits_are_read(rt: HostRuntime) {
     assert!(rt; bits_are(&[0x50], [Some(false), Some(true)], 2) && bits_are(&[], [None, None], 0));
 }
 
-// Whether these are the first two numbers of bytes, and the reader is at this place behind them.
+// Whether these are the first two numbers of bytes, and the reader is at this place after them.
 fn numbers_are(bytes: &[u8], wanted: [Result<u64, CodeError>; 2], place: u128) -> bool {
     let mut reader = BitReader::new(bytes);
     [get_gamma(&mut reader), get_gamma(&mut reader)] == wanted && reader.position() == place

@@ -14,7 +14,7 @@ const ROOM: usize = 17;
 /// How many bytes less than 64 bits and the bits before them fill at most, and one that is kept.
 const SPARE: usize = 9;
 
-// Splits the lowest `rest` bits off `last` and the n bits of `value` behind it.
+// Splits the lowest `rest` bits off `last` and the n bits of `value` after it.
 fn split_bits(last: u8, value: u64, n: u32, rest: u32) -> (u64, u8)
     requires n { n ≤ most_digits }
     requires last { last < 128 }

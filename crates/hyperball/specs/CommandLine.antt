@@ -9,7 +9,7 @@ use Rattle.clap.specs.declared.builder.value_parser.ValueParser.{ValueParser}
 use Rattle.clap.specs.declared.builder.value_parser.ValueParser.TheVariants as vp
 use Rattle.hyperball.specs.declared.cli.arguments.Argument.{Argument}
 
--- what stands between the two fields of a line, by name
+-- what is between the two fields of a line, by name
 abbrev pub delimiter_names : List Text
 delimiter_names = codes "tab" ∷ codes "comma" ∷ codes "space" ∷ []
 
@@ -17,7 +17,7 @@ delimiter_names = codes "tab" ∷ codes "comma" ∷ codes "space" ∷ []
 abbrev pub estimate_names : List Text
 estimate_names = codes "raw" ∷ codes "corrected" ∷ []
 
--- the parser takes one of these names, wherever in memory they stand
+-- the parser takes one of these names, wherever in memory they are
 abbrev pub TakesNames : List Text → ValueParser → Type 0
 TakesNames names (vp.Names given) = map (λ name. name.now) given.now ≡ names
 TakesNames names parser = ⊥
@@ -39,7 +39,7 @@ option_rule name parser = record (new_rule name) { long = Some name; parser = So
 abbrev pub flag_rule : Text → Rule
 flag_rule name = record (new_rule name) { long = Some name; action = Some SetTrue }
 
--- an option where a parser reads its value, and a flag where none does
+-- an option if a parser reads its value, and a flag if none does
 abbrev pub named_rule : Text → Option ValueParser → Rule
 named_rule name (Some parser) = option_rule name parser
 named_rule name None = flag_rule name

@@ -134,16 +134,16 @@ pub record BeginsNothing (r : Reads) (w : Writes) : Type 0 where
   pub kept : KeptOrFailed w
 
 -- ---- ends
--- words that ask for this end with this status: 0 where it is done, and 1 from a fault or where memory is refused before
--- it begins
+-- words that ask for this end with this status: 0 if it is done, and 1 from a fault or if memory is refused before it
+-- begins
 pub record Ends (words : List Text) (asked : Wish) (status : ℕ) (r : Reads) (w : Writes) :
     Type 0 where
   pub done : status ≡ 0 → Does asked r w
   pub fault : status ≡ 1 → BeginsNothing r w ⊎ Fails words asked r w
   pub few : ReadsAll asked → ReadsFew r.bytes.old r.bytes.new
 
--- words that are refused for this kind end with this status: 1 where memory is refused, 0 or 1 where help or the version
--- is asked for, and 2 of a mistake
+-- words that are refused for this kind end with this status: 1 if memory is refused, 0 or 1 if help or the version is
+-- asked for, and 2 of a mistake
 pub record EndsOfKind (k : ErrorKind) (status : ℕ) : Type 0 where
   pub memory : k ≡ kind.OutOfMemory → status ≡ 1
   pub help : k ≡ kind.DisplayHelp → (status ≡ 0) ⊎ (status ≡ 1)
@@ -169,7 +169,7 @@ pub record LeavesRefused (status : ℕ) (w : Writes) : Type 0 where
   pub fault : status ≡ 1 → KeptOrFailed w
   pub mistake : status ≡ 2 → Keeps w.contents.old w.contents.new
 
--- words in which clap finds these faults end with this status: mistakes with 2, or with 1 where memory is refused; help
+-- words in which clap finds these faults end with this status: mistakes with 2, or with 1 if memory is refused; help
 -- and the version with 0 or 1, and with 0 something is written
 pub record EndsRefused (kinds : List ErrorKind) (status : ℕ) (w : Writes) : Type 0 where
   pub mistaken : AreMistakes kinds → (status ≡ 2) ⊎ (status ≡ 1)
@@ -177,7 +177,7 @@ pub record EndsRefused (kinds : List ErrorKind) (status : ℕ) (w : Writes) : Ty
   pub version : kinds ≡ kind.DisplayVersion ∷ [] → (status ≡ 0) ⊎ (status ≡ 1)
   pub some : kinds ≢ [] → status ≡ 0 → AppendsSome w.contents.old w.contents.new
 
--- words that end with status 2: nothing is written, and where clap accepts them a list of orders is not of its form
+-- words that end with status 2: nothing is written, and if clap accepts them a list of orders is not of its form
 pub record EndsMistaken (words : List Text) (w : Writes) : Type 0 where
   pub kept : Keeps w.contents.old w.contents.new
   pub orders : HasFaults words [] → HasOrders words

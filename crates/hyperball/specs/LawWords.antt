@@ -67,7 +67,7 @@ board_words w = record (usual_run w) {
   };
 }
 
--- the options of a replay where none is given
+-- the options of a replay if none is given
 abbrev pub usual_replay_options : ReplayOptions
 usual_replay_options = record {
   log2m = 8;
@@ -104,7 +104,7 @@ one_order = (record { part = 0; replica = 1 }, 2) ∷ []
 abbrev pub two_orders : List (NodeId × ℕ)
 two_orders = (record { part = 0; replica = 1 }, 2) ∷ (record { part = 1; replica = 0 }, 3) ∷ []
 
--- what is asked of a job where no option is given
+-- what is asked of a job if no option is given
 abbrev pub usual_job : JobInput
 usual_job = record { options = usual_options; counted = false }
 

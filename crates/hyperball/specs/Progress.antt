@@ -1,4 +1,4 @@
--- What is told of how a command gets on.
+-- What is reported of how a command gets on.
 use Rattle.std.specs.Prelude.{◌≡◌, ℕ, List, [], ◌∷◌, ◌++◌, Option, MatchOption, Err, codes, decimal}
 use Rattle.std.specs.List.{flat_map}
 use Rattle.std.specs.Io.KnownBytes.{Appends, Keeps}
@@ -49,12 +49,12 @@ news_line said = mark_of_program ++ news_text said
 abbrev pub line_of : News → List ℕ
 line_of said = news_line said ++ 10 ∷ []
 
--- lines of progress are appended to what stood there, and nothing else
+-- lines of progress are appended to what was there, and nothing else
 pub record TellsProgress (old new : Option (List ℕ)) : Type 0 where
   pub lines : List News
   pub appended : Appends old new (flat_map line_of lines)
 
--- as it was asked for: where it was not, what stood there is kept, and else lines of progress alone are appended
+-- as it was asked for: if it was not, what was there is kept, and else lines of progress alone are appended
 pub record TellsAsAsked (unasked : Type 0) (old new : Option (List ℕ)) : Type 0 where
   pub silent : unasked → Keeps old new
   pub told : TellsProgress old new
@@ -65,8 +65,8 @@ pub record IsLineBehind (mark text : List ℕ) : Type 0 where
   pub is : text ≡ mark ++ rest ++ 10 ∷ []
   pub one_line : HasNoEnd (mark ++ rest)
 
--- what tells progress was handed out where this stood, and nothing else was written since; or nothing was handed out or
--- written
+-- what tells progress was handed out when this was there, and nothing else was written since; or nothing was handed out
+-- or written
 abbrev pub Awaits : {F T : Type 0} → (F → T → Option (List ℕ) → Type 0) → (F → Option (List ℕ)) →
     F → Option T → Option (List ℕ) → Type 0
 Awaits has_lent contents faults teller before =
@@ -89,7 +89,7 @@ pub record Foretells (log2m parts limit : ℕ) (news : News) : Type 0 where
   pub tells : TellsOf log2m parts limit error news
   pub refused : (n : Numbers) (g : Graph) → AsksBy log2m parts limit n → plan_asked n g ≡ Err error
 
--- where a plan by these numbers is refused, it is for its vertices
+-- if a plan by these numbers is refused, it is for its vertices
 abbrev pub IsRefusedForVertices : ℕ → ℕ → ℕ → Type 0
 IsRefusedForVertices log2m parts limit =
     (n : Numbers) (g : Graph) (error : PlanError) → AsksBy log2m parts limit n →

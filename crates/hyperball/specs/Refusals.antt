@@ -18,7 +18,7 @@ use Rattle.workers.specs.declared.runs.RunError.{RunError}
 use Rattle.workers.specs.declared.runs.RunError.TheVariants as run_fault
 use Rattle.workers.specs.declared.options.RunOptions.{RunOptions}
 
--- the report of what a run by these settings finds in the input is appended, where that is plain; with a list the input is
+-- the report of what a run by these settings finds in the input is appended, if that is plain; with a list the input is
 -- not too long
 pub record Reports (s : Settings) (counted : Bool) (input : List ℕ) (old new : Option (List ℕ)) :
     Type 0 where
@@ -36,8 +36,8 @@ pub record DoesJob (o : RunOptions) (counted : Bool) (r : Reads) (w : Writes) : 
   pub unfailed : CountsOne r.failed.old r.failed.new → ⊥
   pub listed : counted ≡ true → Rises r.failed.old r.failed.new → ⊥
 
--- this error is told of the edge list and the list of counted vertices in the input, where these are plain: it comes
--- only where all checks before it passed; and where the edge list alone is, it says of that what it has to
+-- this error is answered of the edge list and the list of counted vertices in the input, if these are plain: it comes
+-- only if all checks before it passed; and if the edge list alone is, it says of that what it has to
 pub record RefusesInput (s : Settings) (counted : Bool) (input : List ℕ) (e : RunError) :
     Type 0 where
   pub parts : Parts

@@ -51,8 +51,8 @@ abbrev pub HasParts : ReplayWords → List ℕ → List ℕ → Option (List ℕ
 HasParts v input edges list script = parts_in v.counted true input
     ≡ Ok (record { edges = edges; list = list; script = Some script })
 
--- the options fit, the input is not too long, a script stands in it, and its answers are appended: over some network, and
--- over that of the input where it is plain
+-- the options fit, the input is not too long, a script is in it, and its answers are appended: over some network, and
+-- over that of the input if it is plain
 pub record Answers (v : ReplayWords) (input : List ℕ) (old new : Option (List ℕ)) : Type 0 where
   pub edges : List ℕ
   pub list : Option (List ℕ)
@@ -97,7 +97,7 @@ IsReplayFault v input w (fault.Lacks missing) = parts_in v.counted true input �
 IsReplayFault v input w (fault.Replay e) = FailsOver v input w e
 
 -- what a fault leaves, whatever the input is: all but two leave the writer as it was, and one that says that a write
--- failed comes only where one did
+-- failed comes only if one did
 abbrev pub Leaves : Writes → ReplayFault → Type 0
 Leaves w (fault.Input e) = Keeps w.contents.old w.contents.new
 Leaves w (fault.Lacks missing) = Keeps w.contents.old w.contents.new
@@ -115,7 +115,7 @@ IsUnread (fault.Replay e) = ⊥
 abbrev pub RefusesLong : Option (List ℕ) → ReplayFault → Type 0
 RefusesLong told f = IfSome told (λ input. MOST_BYTES < length input → IsUnread f)
 
--- of an input that lacks a part this is said, where it is read whole
+-- of an input that lacks a part this is said, if it is read whole
 abbrev pub RefusesLack : ReplayWords → Option (List ℕ) → ReplayFault → Type 0
 RefusesLack v told f = IfSome told (λ input. (missing : Lack) →
     parts_in v.counted true input ≡ Err missing → IsUnread f ⊎ (f ≡ fault.Lacks missing))

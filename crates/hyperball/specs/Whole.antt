@@ -22,8 +22,8 @@ IsWholeInput old bytes = IfSome old (λ input. bytes ≡ input)
 abbrev pub IsLong : Option (List ℕ) → Type 0
 IsLong old = IfSome old (λ input. MOST_BYTES < length input)
 
--- a reader whose input was to be read whole, and which of the faults is told of it: each for its reason alone, a failed
--- read wherever a call failed, and none of a reader all of whose calls are sure
+-- a reader whose input was to be read whole, and which of the faults is answered of it: each for its reason alone, a
+-- failed read whenever a call failed, and none of a reader all of whose calls are sure
 pub record ReadsWhole (r : Reads) (told : WholeError → Type 0) : Type 0 where
   pub size : told fault.Size → IsLong r.bytes.old
   pub memory : told fault.Memory → TakesAtMost MOST_BYTES r.bytes.old r.bytes.new
@@ -32,13 +32,13 @@ pub record ReadsWhole (r : Reads) (told : WholeError → Type 0) : Type 0 where
   pub sure : r.sure ≡ None → told fault.Read → ⊥
   pub few : ReadsFew r.bytes.old r.bytes.new
 
--- an edge list, and a list of counted vertices and a script where there are such
+-- an edge list, and a list of counted vertices and a script if there are such
 pub record Parts : Type 0 where
   pub edges : List ℕ
   pub list : Option (List ℕ)
   pub script : Option (List ℕ)
 
--- what the sections before the first mark and after it give; where there is no mark a part is missing
+-- what the sections before the first mark and after it give; if there is no mark a part is missing
 abbrev pub at_mark : Lack → Option (List ℕ × List ℕ) → (List ℕ → List ℕ → Result Parts Lack) →
     Result Parts Lack
 at_mark missing None give = Err missing

@@ -95,14 +95,15 @@ pub record SaysOrders (words : List Text) (x : Wish) : Type 0 where
   pub take : TakeNames parsers
   pub listed : SaysListed (subcommand_of (hyperball_app parsers) words) x
 
--- whether progress is to be told
+-- whether progress is to be reported
 abbrev pub tells_progress : Wish → Bool
 tells_progress (wish.Run w) = w.progress
 tells_progress (wish.Replay w) = w.progress
 tells_progress (wish.Node w) = w.progress
 tells_progress (wish.Gather w) = w.progress
 
--- a wish as a subcommand and its options say it: its command, its lists of orders, and whether progress is to be told
+-- a wish as a subcommand and its options say it: its command, its lists of orders, and whether progress is to be
+-- reported
 pub record IsOfSubcommand (sub : Option (Text × List Row)) (x : Wish) : Type 0 where
   pub names : NamesWish sub x
   pub listed : SaysListed sub x

@@ -31,7 +31,7 @@ use Rattle.workers.specs.Options.{run_job}
 abbrev pub texts_of : List (String Global) → List Text
 texts_of words = map (λ w. string_bytes w) words
 
--- the options of a job where none is given
+-- the options of a job if none is given
 abbrev pub usual_options : JobOptions
 usual_options = record {
   log2m = 8;
@@ -50,7 +50,7 @@ pub record IsNumber (bits : ℕ) (text : Text) (n : ℕ) : Type 0 where
   pub value : n ≡ digits_value 10 (without_leading_plus text)
   pub fits : n < 2 ^ bits
 
--- an option's value is this number; where it is not given it is the usual one
+-- an option's value is this number; if it is not given it is the usual one
 abbrev pub IsNumberOr : ℕ → ℕ → List Row → Text → ℕ → Type 0
 IsNumberOr usual bits rows id n =
     MatchOption (one_of id rows) (n ≡ usual) (λ text. IsNumber bits text n)
@@ -66,7 +66,7 @@ abbrev pub estimate_name : Estimate → Text
 estimate_name Raw = codes "raw"
 estimate_name Corrected = codes "corrected"
 
--- an option's value is the name of this one; where it is not given it is the usual one
+-- an option's value is the name of this one; if it is not given it is the usual one
 abbrev pub IsNamedOr : {A : Type 0} → A → (A → Text) → List Row → Text → A → Type 0
 IsNamedOr usual name_of rows id a =
     MatchOption (first_of id rows) (a ≡ usual) (λ name. name ≡ name_of a)
@@ -120,7 +120,7 @@ AreOrdersIn rows =
 abbrev pub GivesOrders : Option (Text × List Row) → Type 0
 GivesOrders sub = IfSome sub (λ s. AreOrdersIn s.1)
 
--- a list of orders is spelled by the value of its option; where that is not given the list is empty
+-- a list of orders is spelled by the value of its option; if that is not given the list is empty
 abbrev pub IsListed : List Row → Text → List (NodeId × ℕ) → Type 0
 IsListed rows id os = MatchOption (first_of id rows) (os ≡ []) (λ text. AreOrders text os)
 
@@ -156,7 +156,7 @@ GivesProgress sub b = IfSome sub (λ s. IsFlag s.1 (codes "progress") b)
 pub record HasFaults (words : List Text) (kinds : List ErrorKind) : Type 0 where
   pub are : (p : Parsers) → TakeNames p → fault_of (hyperball_app p) words ≡ kinds
 
--- the words, where they are not refused, ask for progress or not
+-- the words, if they are not refused, ask for progress or not
 pub record AsksProgress (words : List Text) (b : Bool) : Type 0 where
   pub flag : (p : Parsers) → TakeNames p → fault_of (hyperball_app p) words ≡ [] →
       GivesProgress (subcommand_of (hyperball_app p) words) b
@@ -190,7 +190,7 @@ pub record ParsesTo (words : List Text) (result : Result ArgMatches Error) : Typ
   pub rows : IfOk result (λ m. subcommand_rows_of m ≡ subcommand_of (hyperball_app parsers) words)
   pub faults : FailsBy (fault_of (hyperball_app parsers) words) result
 
--- where there are such faults, the words are refused for one of them
+-- if there are such faults, the words are refused for one of them
 abbrev pub FailsFor : List ErrorKind → WordsError → Type 0
 FailsFor kinds (words.Clap e) = HasKind kinds e
 FailsFor kinds (words.Orders e) = kinds ≡ []

@@ -42,7 +42,7 @@ fn bare_command<'a>(alloc: Global) -> Command<'a>
         .subcommand_required(true)
 }
 
-// Adds a subcommand, where there is one.
+// Adds a subcommand, if there is one.
 fn add_command<'a>(
     command: Command<'a>,
     inner: Result<Command<'a>, AllocError>,
@@ -91,7 +91,7 @@ pub enum Wish {
 }
 
 impl Wish {
-    /// Whether progress is to be told.
+    /// Whether progress is to be reported.
     pub fn tells_progress(&self) -> bool
         ensures { result ≡ tells_progress self.now }
     {
@@ -104,7 +104,7 @@ impl Wish {
     }
 }
 
-/// What serves a wish: the machine, and who tells how it gets on, where that is to be told.
+/// What serves a wish: the machine, and who tells how it gets on, if that is to be reported.
 #[derive(Drop)]
 pub struct Server<'a, H, T> {
     /// What gives memory, random words, threads and the time.
@@ -142,14 +142,14 @@ fn wish_of(alloc: Global, matches: &ArgMatches<'_>) -> Result<Wish, WordsError>
     }
 }
 
-/// What the words of a command line ask for. The error is why they ask for nothing: lists of orders are read where
-/// `clap` finds nothing wrong.
+/// What the words of a command line ask for. The error is why they ask for nothing: lists of orders are read if `clap`
+/// finds nothing wrong.
 pub fn read_words(alloc: Global, words: &[String]) -> Result<Wish, WordsError>
     ensures asked { (x : Wish) → IsWish (texts_of words.now) x → IfOk result (Says x) }
     ensures found { IfOk result (IsOfWords (texts_of words.now)) }
     ensures faults { (kinds : List ErrorKind) → HasFaults (texts_of words.now) kinds →
         FailsWith kinds result }
-    // Lists of orders are refused only where one is not of its form, and memory for them only where each is.
+    // Lists of orders are refused only if one is not of its form, and memory for them only if each is.
     ensures lists { (e : OrdersError) → result ≡ Err (WordsError.Orders e) →
         RefusesOrders (texts_of words.now) e }
 {

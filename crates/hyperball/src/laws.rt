@@ -202,14 +202,15 @@ pub fn lines_of_progress()
     ensures { (news : News) → IsLineBehind mark_of_program (line_of news) }
 {}
 
-/// Words that are read as those of a command ask for it, and for no other.
+/// Words that are read as those of a replay, of a node or of a gathering ask for that one. Words that are read as those
+/// of any command ask for none of the three but their own.
 pub fn words_of_one_command()
     ensures asked { (words : List Text) (x : Wish) → IsWish words x → AsksWish words x }
     ensures another { (words : List Text) (x : Wish) → IsWish words x → AsksAnother words x → ⊥ }
 {}
 
-/// These texts are lists of orders, and these are none: a superstep is wanted, without leading zeros, and no list ends
-/// with a comma.
+/// These texts are lists of orders, and these are none: a superstep is wanted, no number has leading zeros, no list
+/// ends with a comma, and none is empty.
 pub fn lists_of_orders()
     ensures one { AreOrders (codes "0.1@2") one_order }
     ensures two { AreOrders (codes "0.1@2,1.0@3") two_orders }

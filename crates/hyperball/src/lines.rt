@@ -28,7 +28,7 @@ pub enum News {
         records: u64,
         vertices: u32,
     },
-    /// A first node stands at superstep 0.
+    /// A first node is at superstep 0.
     Start,
     /// All partitions have come to a superstep, at which so many of all vertices changed.
     Superstep {

@@ -1,13 +1,13 @@
 //! HyperBall centralities of a directed graph, from the command line.
 //!
 //! `hyperball run` reads an edge list on standard input and writes its report on standard output; `hyperball replay`
-//! plays a script over one; `hyperball node` is one partition's node that answers commands, and `hyperball gather` writes
-//! the report of the checkpoints of all partitions. Each has a file in [`cli`], with its words and what it does. This
-//! file hands the real streams to [`serve::serve`], which goes from words and bytes to bytes and a status.
-//! [`cli::read_words`] gives what the words ask for, a [`cli::Wish`]: of a run what is asked of it, with the lists of orders
-//! ([`cli::orders`]). With `--counted` a run reads its input whole ([`whole::read_whole`]) and cuts it into its parts
-//! ([`whole::parts_of`]), and so does a replay. The run itself is [`workers::run_watched`]. How a command gets on is told in
-//! lines of progress ([`lines::News`]), where that is asked for ([`progress`]).
+//! plays a script over one; `hyperball node` is one partition's node that answers commands, and `hyperball gather`
+//! writes the report of the checkpoints of all partitions. Each has a file in [`cli`], with its words and what it does.
+//! This file hands the real streams to [`serve::serve`], which goes from words and bytes to bytes and a status.
+//! [`cli::read_words`] gives what the words ask for, a [`cli::Wish`]: of a run what is asked of it, with the lists of
+//! orders ([`cli::orders`]). With `--counted` a run reads its input whole ([`whole::read_whole`]) and cuts it into its
+//! parts ([`whole::parts_of`]), and so does a replay. The run itself is [`workers::run_watched`]. How a command gets on
+//! is reported in lines of progress ([`lines::News`]), if that is asked for ([`progress`]).
 //!
 //! ```text
 //! $ printf 'a\tb\nb\tc\n' | hyperball run --log2m 4
@@ -52,7 +52,7 @@ fn tell_no_words(rt: &HostRuntime, error: io::Error) -> u8 {
     serve::tell_fault(&mut faults, error)
 }
 
-// One who is to type the input is told so. Words that ask for help, or are refused, read none.
+// A user who is to type the input gets a line that says so. Words that ask for help, or are refused, read none.
 fn tell_terminal(rt: &HostRuntime, words: &[String]) {
     if rt.stdin().is_terminal() && cli::read_words(rt.alloc(), words).is_ok() {
         let told =

@@ -1,9 +1,8 @@
-//! What is told of how a command gets on, where that is asked for.
+//! What is reported of how a command gets on, if that is asked for.
 //!
 //! [`LendTeller`] hands out a [`Teller`], which tells lines of progress ([`News`]) and nothing else, and takes it back.
-//! What is refused whatever the graph is told before the edge list is read ([`foretold`]).
-//! Of a run [`RunProgress`] says what is told, and its [`TellingGate`] says when; a replay, a node and a gathering have
-//! a [`TellingWatch`].
+//! What is refused whatever the graph is reported before the edge list is read ([`foretold`]). Of a run [`RunProgress`]
+//! says what is reported, and its [`TellingGate`] says when; a replay, a node and a gathering have a [`TellingWatch`].
 
 ghost use Rattle.std.specs.Prelude.{◌≡◌, IfSome, List, None, Option, ℕ};
 ghost use Rattle.hyperball.specs.Progress.{Foretells, IsRefusedForVertices, TellsProgress};
@@ -20,7 +19,7 @@ use workers::{Gate, RunOptions, SleepingGate};
 
 /// What tells lines of progress.
 pub trait Teller {
-    /// Tells a line, which is dropped where it cannot be written.
+    /// Tells a line, which is dropped if it cannot be written.
     fn tell(&self, news: News);
 }
 
@@ -30,20 +29,20 @@ impl Teller for Stderr {
     }
 }
 
-/// Where faults are told, and progress where it is asked for.
+/// Where faults are reported, and progress if it is asked for.
 pub trait LendTeller: Write {
     /// What tells progress there, from any thread.
     type Teller: Teller + Sync + Drop;
 
-    // It has handed out this teller where that stood there, and nothing was written to it since.
+    // It has handed out this teller when that was there, and nothing was written to it since.
     ghost has_lent: { Self → Self.Teller → Option (List ℕ) → Type 0 };
 
-    /// Hands out what tells progress there. Until that is given back, no contract says what stands there.
+    /// Hands out what tells progress there. Until that is given back, no contract says what is there.
     fn teller(&mut self) -> Self::Teller
         ensures { has_lent self.new result (Self.contents self.old) };
 
-    /// Takes back what told progress there. Where nothing else was written since, lines of progress stand behind what
-    /// stood there before, and nothing else. They are to be those that it told, but for those that were dropped; no
+    /// Takes back what tells progress there. If nothing else was written since, lines of progress are after what was
+    /// there before, and nothing else. They are to be those that it was given, but for those that were dropped; no
     /// contract says so.
     fn end(&mut self, teller: Self::Teller)
         ensures { (before : Option (List ℕ)) → has_lent self.old teller before →
@@ -53,7 +52,7 @@ pub trait LendTeller: Write {
 impl LendTeller for Stderr {
     type Teller = Stderr;
 
-    // No contract knows what stands there.
+    // No contract knows what is there.
     ghost has_lent = { λ _ _ before. before ≡ None };
 
     fn teller(&mut self) -> Stderr {
@@ -63,8 +62,8 @@ impl LendTeller for Stderr {
     fn end(&mut self, _teller: Stderr) {}
 }
 
-/// What is told of these numbers where no plan has them, whatever the graph: the first of them in the order of the checks.
-/// (A plan of no vertices has the same fault.)
+/// What is reported of these numbers if no plan has them, whatever the graph: the first of them in the order of the
+/// checks. (A plan of no vertices has the same fault.)
 pub fn foretold(log2m: u8, parts: u16, limit: u32) -> Option<News>
     ensures some { IfSome result (Foretells log2m parts limit) }
     ensures none { result ≡ None → IsRefusedForVertices log2m parts limit }
@@ -94,8 +93,8 @@ impl Superstep {
     }
 }
 
-/// Tells how a run gets on: its edge list, where its supersteps begin, each that all partitions have come to, and the
-/// report.
+/// Tells how a run gets on: its edge list, the start of its supersteps, each superstep that all partitions have come
+/// to, and the report.
 #[derive(Drop)]
 pub struct RunProgress<'a, T> {
     teller: &'a T,
@@ -112,7 +111,7 @@ pub struct RunProgress<'a, T> {
 }
 
 impl<'a, T: Teller> RunProgress<'a, T> {
-    /// Nothing is told yet, of a run of so many partitions. The error is that memory was refused.
+    /// Nothing is reported yet, of a run of so many partitions. The error is that memory was refused.
     pub fn new(alloc: Global, teller: &'a T, parts: u16) -> Result<RunProgress<'a, T>, AllocError> {
         Ok(RunProgress {
             teller,
@@ -124,7 +123,7 @@ impl<'a, T: Teller> RunProgress<'a, T> {
         })
     }
 
-    // The edge list is to be read, where the other options are in their limits.
+    // The edge list is to be read, if the other options are in their limits.
     fn note_begin(&self, options: &RunOptions) {
         if options.are_in_limits()
             && let Some(news) = foretold(options.log2m, options.parts, options.limit)
@@ -144,7 +143,7 @@ impl<'a, T: Teller> RunProgress<'a, T> {
         self.teller.tell(News::Read { records, vertices });
     }
 
-    // A node stands at superstep 0. The first one tells it.
+    // A node is at superstep 0. The first one tells it.
     fn note_start(&self) {
         if self.started.fetch_add(1, Ordering::SeqCst) == 0 {
             self.teller.tell(News::Start);
@@ -206,13 +205,13 @@ fn no_supersteps(alloc: Global) -> Result<Vec<Superstep>, AllocError> {
 /// How many milliseconds pass before a next line tells how far reading is.
 const PAUSE: u64 = 1000;
 
-// How long nothing is told of reading: from its begin to a first line, and from each line to the next.
+// How long nothing is reported of reading: from its begin to a first line, and from each line to the next.
 #[derive(Drop)]
 struct ReadingPause<'a, C> {
     clock: &'a C,
-    // none if the clock cannot be read: nothing is told then
+    // none if the clock cannot be read: nothing is reported then
     begin: Option<Instant>,
-    // when a line was told last, in milliseconds from the begin
+    // when a line was written last, in milliseconds from the begin
     told: AtomicU64,
 }
 
@@ -243,7 +242,7 @@ impl<'a, C: Clock> ReadingPause<'a, C> {
     }
 }
 
-/// A gate whose idle turns sleep, and which tells how the run gets on where there is a teller.
+/// A gate whose idle turns sleep, and which tells how the run gets on if there is a teller.
 #[derive(Drop)]
 pub struct TellingGate<'a, C, T> {
     sleeping: SleepingGate<'a, C>,
@@ -329,14 +328,14 @@ impl<'a, C: Clock, T: Teller> Watch for TellingGate<'a, C, T> {
     }
 }
 
-/// A watch that tells how a replay, a node or a gathering gets on, where there is a teller.
+/// A watch that tells how a replay, a node or a gathering gets on, if there is a teller.
 #[derive(Clone, Copy)]
 pub struct TellingWatch<'a, T> {
     teller: &'a Option<T>,
 }
 
 impl<'a, T: Teller> TellingWatch<'a, T> {
-    /// Nothing is told yet.
+    /// Nothing is reported yet.
     pub fn new(teller: &'a Option<T>) -> TellingWatch<'a, T> {
         TellingWatch { teller }
     }
@@ -363,7 +362,7 @@ impl<'a, T: Teller> TellingWatch<'a, T> {
         self.tell(News::Report);
     }
 
-    // Tells a line where there is a teller.
+    // Tells a line if there is a teller.
     fn tell(&self, news: News) {
         if let Some(teller) = self.teller {
             teller.tell(news);

@@ -33,16 +33,16 @@ use std::thread::Threads;
 use std::time::Clock;
 use thiserror::Error;
 
-/// The status of a run that wrote its report, or of help that was asked for.
+/// The status of a command that is done, or of help or the version that was asked for.
 const DONE: u8 = 0;
 
-/// The status of a fault of the run.
+/// The status of a fault.
 const FAULT: u8 = 1;
 
 /// The status of words that are refused.
 const MISTAKE: u8 = 2;
 
-/// Tells a fault in one line, which is dropped where it cannot be written, and gives the status of a fault.
+/// Tells a fault in one line, which is dropped if it cannot be written, and gives the status of a fault.
 pub fn tell_fault<F: Write>(faults: &mut F, fault: impl Display + Drop) -> u8
     ensures { result ≡ 1 }
 {
@@ -50,7 +50,7 @@ pub fn tell_fault<F: Write>(faults: &mut F, fault: impl Display + Drop) -> u8
     FAULT
 }
 
-// Writes help that was asked for.
+// Writes help, or the version, that was asked for.
 fn tell_help<D: Display, W: CountedWrite, F: Write>(
     alloc: Global,
     help: &D,
@@ -78,7 +78,7 @@ fn tell_help<D: Display, W: CountedWrite, F: Write>(
     }
 }
 
-// Tells why `clap` reads no run: help goes to the writer, and all else to the faults.
+// Tells why `clap` reads no command: help and the version go to the writer, and all else to the faults.
 fn tell_clap<W: CountedWrite, F: Write>(
     alloc: Global,
     error: &clap::Error,
@@ -119,7 +119,7 @@ fn tell_orders<F: Write>(faults: &mut F, error: OrdersError) -> u8
     }
 }
 
-// Tells why the words are no run.
+// Tells why the words are those of no command.
 fn tell_words<W: CountedWrite, F: Write>(
     alloc: Global,
     error: &WordsError,
@@ -140,7 +140,7 @@ fn tell_words<W: CountedWrite, F: Write>(
     }
 }
 
-// What tells progress, where it is asked for.
+// What tells progress, if it is asked for.
 fn teller_for<F: LendTeller>(asked: bool, faults: &mut F) -> Option<F::Teller>
     ensures silent { asked ≡ false → result ≡ None }
     ensures lent { Awaits F.has_lent F.contents faults.new result (F.contents faults.old) }
@@ -148,7 +148,7 @@ fn teller_for<F: LendTeller>(asked: bool, faults: &mut F) -> Option<F::Teller>
     if asked { Some(faults.teller()) } else { None }
 }
 
-// Takes back what told progress, where it was handed out.
+// Takes back what tells progress, if it was handed out.
 fn end_telling<F: LendTeller>(teller: Option<F::Teller>, faults: &mut F)
     ensures silent { teller ≡ None → Keeps (F.contents faults.old) (F.contents faults.new) }
     ensures told { (before : Option (List ℕ)) →
@@ -227,7 +227,7 @@ fn fulfil<
     }
 }
 
-// Does what words ask for, tells why where it is not done, and gives the exit status.
+// Does what words ask for, tells why if it is not done, and gives the exit status.
 fn serve_wish<
     H: AllocGlobal + Clock + RandomSource + Threads + Wait + Sync,
     R: CountedRead,
@@ -260,15 +260,15 @@ fn serve_wish<
 
 /// Does what the words of a command line say, and gives the exit status.
 ///
-/// 0: the report or the answers were written, or help was asked for, whose text goes to the writer; nothing goes to
-/// `faults`, unless `--progress` asks that progress is told there, and then lines of progress alone. 1: a fault, told
-/// in one line on `faults`; nothing was written unless a write failed, or memory was refused in a replay or for the
-/// report of checkpoints, where a beginning may stand, or by a node, where what it has answered stands. 2: words that
-/// are refused, as `clap` tells it there, or a list of orders that is not of its form; nothing was written.
+/// 0: the report or the answers were written, or help or the version was asked for, whose text goes to the writer;
+/// nothing goes to `faults`, unless `--progress` asks for progress there, and then lines of progress alone. 1: a fault,
+/// in one line on `faults`; nothing was written, with two exceptions: a beginning, if a write failed, or memory was
+/// refused in a replay or for the report of checkpoints; and what a node answered before. 2: words that are refused, as
+/// `clap` reports it there, or a list of orders that is not of its form; nothing was written.
 ///
 /// The first word is the program's name. With `--counted`, and by a replay, the input is read whole, at most 67,108,865
-/// bytes of it: the edge list, a line of exactly `%%`, the list of counted vertices where there is one, and for a replay
-/// a line of `%%` behind it and the script.
+/// bytes of it: the edge list, a line of exactly `%%`, the list of counted vertices if there is one, and for a replay a
+/// line of `%%` after it and the script.
 pub fn serve<
     H: AllocGlobal + Clock + RandomSource + Threads + Wait + Sync,
     R: CountedRead,
@@ -286,7 +286,7 @@ pub fn serve<
     ensures one { result ≡ 1 → LeavesFault (texts_of words.now)
         (reads_of R.remaining R.failed_calls R.sure_calls reader.old reader.new)
         (writes_of W.contents W.failed_calls writer.old writer.new) }
-    // Where clap accepts the words, status 2 comes only from a list of orders that is not of its form.
+    // If clap accepts the words, status 2 comes only from a list of orders that is not of its form.
     ensures two { result ≡ 2 → EndsMistaken (texts_of words.now)
         (writes_of W.contents W.failed_calls writer.old writer.new) }
     ensures told { result ≡ 0 → TellsAsAsked (AsksProgress (texts_of words.now) false)

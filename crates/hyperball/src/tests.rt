@@ -1,6 +1,7 @@
-//! What no clause says, and no run of the program shows: what words are read as, printed texts, and memory and streams that
-//! fail. (`examples/check` tries the rest: reports, answers, faults, help and statuses.) A case is constant data: words, an
-//! input, and what comes of them. What is written and told is compared as it comes, and kept nowhere.
+//! What no clause says, and no run of the program shows: what words are read as, printed texts, and memory and streams
+//! that fail. (`examples/check` tries the rest: reports, answers, faults, help and statuses.) A case is constant data:
+//! words, an input, and what comes of them. What is written, to the output and to the faults, is compared as it comes,
+//! and kept nowhere.
 
 mod fakes;
 mod refusals;
@@ -27,14 +28,14 @@ impl<H: Abort + AllocGlobal + Clock + RandomSource + Threads + Wait + Sync> Host
 /// Some bytes in pieces, none of which is empty.
 type Pieces = &'static [&'static [u8]];
 
-/// The words of a command line, an input, the status, what is written, and what is told: of words that are refused
+/// The words of a command line, an input, the status, what is written, and the faults: of words that are refused
 /// (status 2) the beginning.
 type Case = (&'static str, Pieces, u8, Pieces, &'static [u8]);
 
 /// Two edges, from a to b and from b to c.
 const EDGES: &[u8] = b"a\tb\nb\tc\n";
 
-/// The same with the mark that ends them.
+/// These edges, with the mark that ends them.
 const MARKED: &[u8] = b"a\tb\nb\tc\n%%\n";
 
 /// The report of the two edges.
@@ -49,7 +50,7 @@ vertex,b,11.780376,0.665022,1.503709,208.680703,14
 vertex,c,12.417153,0.751274,0.538737,83.065637,13
 ";
 
-/// The same where a alone is counted.
+/// The report of the two edges if a alone is counted.
 const ONE_COUNTED: &[u8] = b"superstep,0,32.926942
 superstep,1,33.549884
 superstep,2,34.172826
@@ -98,8 +99,9 @@ static OPEN: Flow = Flow {
     told: usize::MAX,
 };
 
-/// How words ended: whether they were served, and told no line of progress; the status; how many calls of the reader and
-/// the writer failed; what was written; what was told, and the same beside what is told of refused memory.
+/// How words ended: whether they were served, with no line of progress; the status; how many calls of the reader and
+/// the writer failed; what was written; what came to the faults, compared with the case's and with the fault of refused
+/// memory.
 #[derive(Clone, Copy)]
 struct End {
     served: bool,
@@ -156,7 +158,7 @@ fn no_end() -> End {
     }
 }
 
-/// The same of the words of a case. They are not served where memory is refused before.
+/// How the words of a case end over its input. They are not served if memory is refused before.
 fn served<H: Host>(rt: &H, case: &Case, flow: &Flow, lines: &Lines) -> End {
     match words_of(rt.alloc(), case.0) {
         Ok(words) => end_of(rt, &words, case, flow, lines),
@@ -164,7 +166,7 @@ fn served<H: Host>(rt: &H, case: &Case, flow: &Flow, lines: &Lines) -> End {
     }
 }
 
-/// How a case ends over such streams, where no line of progress is told.
+/// How a case ends over such streams. It counts as not served if a line of progress is reported.
 fn end_in<H: Host>(rt: &H, case: &Case, flow: &Flow) -> End {
     let lines = Lines::new();
     let mut end = served(rt, case, flow, &lines);
@@ -172,7 +174,7 @@ fn end_in<H: Host>(rt: &H, case: &Case, flow: &Flow) -> End {
     end
 }
 
-/// Whether the status is that of the case, and just what it says was told.
+/// Whether the status is that of the case, and the faults are what it says.
 fn is_told(case: &Case, end: &End) -> bool {
     let told = if case.2 == 2 {
         end.faults.begins()

@@ -1,5 +1,5 @@
-//! Inputs that are read whole, and cut into their parts: an edge list, and after a line of exactly `%%` each a list of counted
-//! vertices and a script, where they are wanted.
+//! Inputs that are read whole, and cut into their parts: an edge list, and after a line of exactly `%%` each a list of
+//! counted vertices and a script, if they are wanted.
 
 ghost use Rattle.std.specs.Prelude.{◌≡◌, ◌≢◌, ◌<◌, ◌≤◌, ◌+◌, ◌++◌, if◌then◌else◌, [], length, Err};
 ghost use Rattle.std.specs.Prelude.{IfErr, IfOk, None, Ok, OnOk, Some, option_map};
@@ -18,7 +18,7 @@ use thiserror::Error;
 // How many bytes are read at once.
 const PIECE: usize = 65_536;
 
-/// A part that an input lacks: no line of exactly `%%` stands before it.
+/// A part that an input lacks: no line of exactly `%%` is before it.
 #[derive(Clone, Copy, Debug, Error)]
 pub enum Lack {
     /// The list of counted vertices.
@@ -43,9 +43,9 @@ pub struct Form {
 pub struct Parts<'a> {
     /// The edge list.
     pub edges: &'a [u8],
-    /// The list of counted vertices, where there is one.
+    /// The list of counted vertices, if there is one.
     pub list: Option<&'a [u8]>,
-    /// The script, where there is one.
+    /// The script, if there is one.
     pub script: Option<&'a [u8]>,
 }
 
@@ -73,7 +73,7 @@ impl From<AllocError> for WholeError {
     }
 }
 
-// Adds a piece behind the others, where they are not more than `MOST_BYTES` with it.
+// Adds a piece after the others, if they are not more than `MOST_BYTES` with it.
 fn add_piece(bytes: &mut Vec<u8>, piece: &[u8]) -> Result<(), WholeError>
     requires { length bytes.old.items ≤ MOST_BYTES }
     ensures ok { OnOk result (bytes.new.items ≡ bytes.old.items ++ piece.now) }
@@ -130,8 +130,8 @@ fn read_all<R: CountedRead>(
 
 /// Reads an input to its end, at most one byte more than 2^26.
 ///
-/// `Read` is answered where a call of the reader failed and nowhere else, `Size` only where there are more than 2^26
-/// bytes, `Memory` only where no more than 2^26 were read.
+/// `Read` is answered if a call of the reader failed and at no other time, `Size` only if there are more than 2^26
+/// bytes, `Memory` only if no more than 2^26 were read.
 pub fn read_whole<R: CountedRead>(alloc: Global, reader: &mut R) -> Result<Vec<u8>, WholeError>
     ensures ok { IfOk result (λ bytes. IsWholeInput (R.remaining reader.old) bytes.items) }
     ensures within { IfOk result (λ bytes. length bytes.items ≤ MOST_BYTES) }
@@ -145,7 +145,7 @@ pub fn read_whole<R: CountedRead>(alloc: Global, reader: &mut R) -> Result<Vec<u
     Ok(bytes)
 }
 
-// What follows a line of exactly %%, where a line begins and such a one stands at the front.
+// What follows a line of exactly %%, if a line begins and such a one is at the front.
 fn mark_here(begins: bool, bytes: &[u8]) -> Option<&[u8]>
     ensures { option_map (λ rest. rest.now) result ≡
         (if begins then after_mark bytes.now else None) }
@@ -153,7 +153,7 @@ fn mark_here(begins: bool, bytes: &[u8]) -> Option<&[u8]>
     if begins { after_mark(bytes) } else { None }
 }
 
-/// What stands before the first line of exactly `%%`, and what follows it.
+/// What is before the first line of exactly `%%`, and what follows it.
 pub fn sections(input: &[u8]) -> Option<(&[u8], &[u8])>
     ensures { option_map (λ s. (s.0.now, s.1.now)) result ≡ sections_of input.now }
 {

@@ -76,7 +76,7 @@ pub record AreOfAnEnd (j : Job) (bodies : List (List ℕ)) : Type 0 where
   pub made : AreMadeOf j 0 bodies replicas
   pub ready : are_ready replicas ≡ true
 
--- all that is left of the input is checkpoints, one of each partition, of the end of a run; and where they stand for the
+-- all that is left of the input is checkpoints, one of each partition, of the end of a run; and if they stand for the
 -- job, its report was appended
 pub record Gathers (j : Job) (labels : List (List ℕ)) (left left' : Option (List ℕ))
     (old new : Option (List ℕ)) : Type 0 where

@@ -16,7 +16,7 @@ pub record GivesSection (limits : Limits) (delimiter : Delimiter)
   pub given : IsGivenUnder limits delimiter front edges
   pub section : ReadsSection front left left'
 
--- all was read, where no mark is, and given to a reader of edges
+-- all was read and given to a reader of edges, and there is no mark
 pub record GivesAll (limits : Limits) (delimiter : Delimiter) (left : Option (List ℕ))
     (edges : EdgeReader) : Type 0 where
   pub front : List ℕ
@@ -44,7 +44,7 @@ pub record HasRecords (s : Settings) (left : Option (List ℕ)) (number : ℕ) :
   pub section : ReadsSection input left behind
   pub says : IsPlain input → number ≡ length (records s.delimiter input)
 
--- a list was read, where there is one
+-- a list was read, if there is one
 abbrev pub ReadsList : Option (List ℕ) → Option (List ℕ) → Option (List ℕ) → Type 0
 ReadsList None left left' = left' ≡ left
 ReadsList (Some list) left left' = ReadsSection list left left'
@@ -65,7 +65,7 @@ pub record IsPlanned (n : Numbers) (network : Network) (plan : PlanValue) : Type
   pub planned : plan_asked n network.graph ≡ Ok plan
 
 -- the job of the input: the network that the edge list and the list of counted vertices say, and its plan; what follows
--- the mark behind them is left
+-- the mark after them is left
 pub record IsJobRead (s : Settings) (counted : Bool) (left left' : Option (List ℕ))
     (network : Network) (plan : PlanValue) : Type 0 where
   pub all : Network

@@ -1,4 +1,4 @@
--- What nodes of a job say is what they may be told. Each is the contract of a function of src/laws.rt.
+-- What nodes of a job say is what they may be given. Each is the contract of a function of src/laws.rt.
 use Rattle.std.specs.Prelude.{◌≡◌, ◌≢◌, ℕ, ◌<◌, ◌≤◌, List, ◌++◌, length, Some}
 use Rattle.ball_model.specs.Batches.{true_batch}
 use Rattle.ball_model.specs.Held.{IsHeldBy}
@@ -10,7 +10,7 @@ use Rattle.node.specs.declared.command.Command.TheVariants as command
 use Rattle.node.specs.NodeText.{IsDelivered, IsGivenBack, IsStart, send_text, sent_line}
 use Rattle.node.specs.Turns.{most_body}
 
--- what a node of that holding says to partition q is a line and, behind it, the spelling of the true batch of its name,
+-- what a node of that holding says to partition q is a line and, after it, the spelling of the true batch of its name,
 -- which a node of partition q takes: it is no longer than any that may be delivered there
 pub record SendsTrue (j : Job) (h : Holding) (q : ℕ) : Type 0 where
   pub body : List ℕ

@@ -17,7 +17,7 @@ use Rattle.node.specs.Job.{CountsSome, IsJobRead, SaysNetwork}
 use Rattle.node.specs.Section.{HasNoMark, ReadsSection, before_mark}
 
 -- ---- the edge list
--- what stands before the mark is refused for that, and not for a failed read
+-- what is before the mark is refused for that, and not for a failed read
 pub record IsRefused (says : List ℕ → Result Network Refusal) (left : Option (List ℕ))
     (e : EdgeError) : Type 0 where
   pub read : e ≢ unread.Read
@@ -46,7 +46,7 @@ pub record LacksListMark (left : Option (List ℕ)) : Type 0 where
   pub none : HasNoMark left
   pub few : IfSome left (λ text. length text ≤ MOST_BYTES)
 
--- so it is, or more bytes than a list may have stand before a mark
+-- so it is, or more bytes than a list may have are before a mark
 abbrev pub IsUnlisted : Option (List ℕ) → JobInputError → Type 0
 IsUnlisted left fault.NoListMark = LacksListMark left
 IsUnlisted left fault.ListSize = IfSome left (λ text. MOST_BYTES < length (before_mark text))
@@ -54,7 +54,7 @@ IsUnlisted left fault.Memory = ⊤
 IsUnlisted left fault.Read = ⊤
 IsUnlisted left e = ⊥
 
--- a list stands before a mark, and is refused for what it says of a network
+-- a list is before a mark, and it is refused for what it says of a network
 pub record IsMiscounted (s : Settings) (left : Option (List ℕ)) (all : Network)
     (e : CountedError) : Type 0 where
   pub list : List ℕ
@@ -67,7 +67,7 @@ abbrev pub IsUncounted : Settings → Option (List ℕ) → Network → JobInput
 IsUncounted s left all (fault.Counted e) = IsMiscounted s left all e
 IsUncounted s left all e = IsUnlisted left e
 
--- the edge list says a network, and the list behind it is refused so
+-- the edge list says a network, and the list after it is refused so
 pub record HasNoCount (s : Settings) (counted : Bool) (left : Option (List ℕ))
     (e : JobInputError) : Type 0 where
   pub asked : counted ≡ true
@@ -111,7 +111,7 @@ IsNoJob s counted left left' fault.Memory = ⊤
 IsNoJob s counted left left' fault.Read = ⊤
 
 -- ---- a node of the job
--- it has no partition p; memory is refused only where it has one
+-- it has no partition p; memory is refused only if it has one
 abbrev pub IsNoStart : PlanValue → ℕ → JobInputError → Type 0
 IsNoStart plan p fault.Part = plan.parts ≤ p
 IsNoStart plan p fault.Memory = p < plan.parts

@@ -80,7 +80,7 @@ pub record ReadsNoCheckpoint (part : PartValue) (left left' : Option (List ℕ))
   pub consumed : Consumes left left' (part_text body)
   pub no_checkpoint : IsNoCheckpoint part body e
 
--- what a refusal of a checkpoint of partition p is told as
+-- what a refusal of a checkpoint of partition p is answered as
 abbrev pub checkpoint_fault : ℕ → KeepError → GatherError
 checkpoint_fault p unkept.Memory = fault.Memory
 checkpoint_fault p e = fault.Checkpoint p e
@@ -137,7 +137,7 @@ pub record AreGathered (j : Job) (left left' : Option (List ℕ)) : Type 0 where
   pub end : IsAtEnd left'
   pub ready : are_ready replicas ≡ true
 
--- memory was refused before the checkpoint of some partition, or where all of it was there, or for the report
+-- memory was refused before the checkpoint of some partition, or when all of it was there, or for the report
 abbrev pub LacksReportRoom : Job → Option (List ℕ) → Option (List ℕ) → Type 0
 LacksReportRoom j left left' = StopsAtPart j left left' fault.Memory ⊎ AreGathered j left left'
 
@@ -177,7 +177,7 @@ IsUnwritten fault.Memory = ⊥
 IsUnwritten fault.Write = ⊥
 IsUnwritten e = ⊤
 
--- checkpoints of the end of a run were read, and a beginning of the report was appended where they stand for the job
+-- checkpoints of the end of a run were read, and a beginning of the report was appended if they stand for the job
 pub record GathersFront (j : Job) (labels : List (List ℕ)) (left left' : Option (List ℕ))
     (old new : Option (List ℕ)) : Type 0 where
   pub bodies : List (List ℕ)

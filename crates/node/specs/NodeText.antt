@@ -223,7 +223,7 @@ figures_text j labels h =
     flat_map (λ x. vertex_text (mixing_of j.plan) j.graph labels h.superstep x)
     (own_vertices j h.partition)
 
--- a node as it is named where it is the only one of its partition
+-- a node as it is named if it is the only one of its partition
 abbrev pub the_lone_node : ℕ → NodeId
 the_lone_node p = record { part = p; replica = 0 }
 

@@ -13,23 +13,23 @@ is_front (a ∷ b ∷ []) = (a == 37) && (b == 37)
 is_front (a ∷ b ∷ c ∷ []) = (a == 37) && (b == 37) && (c == 13)
 is_front (a ∷ b ∷ c ∷ d ∷ more) = false
 
--- an LF stands only at the end
+-- an LF is only at the end
 unfoldable pub is_tail : List ℕ → Bool
 is_tail [] = true
 is_tail (a ∷ []) = true
 is_tail (a ∷ b ∷ more) = not (a == 10) && is_tail (b ∷ more)
 
--- what was read ahead: where a line begins, the front of a mark
+-- what was read ahead: if a line begins there, the front of a mark
 pub record IsAhead (begins : Bool) (ahead : List ℕ) : Type 0 where
   pub front : begins ≡ true → is_front ahead ≡ true
   pub tail : is_tail ahead ≡ true
 
--- what was read ahead up to the first byte that tells whether a mark stands there
+-- what was read ahead up to the first byte that tells whether a mark is there
 pub record IsPast (ahead : List ℕ) : Type 0 where
   pub tail : is_tail ahead ≡ true
   pub nothing : IfSome (after_mark ahead) (λ rest. rest ≡ [])
 
--- the byte was given: it is the first of what was left, and the section goes on behind it
+-- the byte was given: it is the first of what was left, and the section goes on after it
 pub record GivesOf (begins : Bool) (b : ℕ) (text : List ℕ) (new : Option (List ℕ)) : Type 0 where
   pub rest : List ℕ
   pub new_is : new ≡ Some rest
@@ -39,7 +39,7 @@ pub record GivesOf (begins : Bool) (b : ℕ) (text : List ℕ) (new : Option (Li
 abbrev pub Gives : Bool → ℕ → Option (List ℕ) → Option (List ℕ) → Type 0
 Gives begins b old new = IfSome old (λ text. GivesOf begins b text new)
 
--- the section ended at a mark, behind which that is left
+-- the section ended at a mark, after which that is left
 pub record EndsOf (begins : Bool) (text : List ℕ) (new : Option (List ℕ)) : Type 0 where
   pub rest : List ℕ
   pub new_is : new ≡ Some rest
@@ -56,7 +56,7 @@ DoesStep begins old new left step.Mark = EndsAtMark begins old left
 DoesStep begins old new left step.End = IsAtEnd old
 DoesStep begins old new left step.Failed = Keeps old new
 
--- what is read ahead after a step: nothing where the section has ended, and as before where a call failed
+-- what is read ahead after a step: nothing if the section has ended, and as before if a call failed
 abbrev pub LeavesAhead : Bool → SectionStep → List ℕ → Type 0
 LeavesAhead begins (step.Byte b) ahead = IsAhead (b == 10) ahead
 LeavesAhead begins step.Mark ahead = ahead ≡ []
@@ -69,7 +69,7 @@ IsByteOrEnd step.Mark = ⊥
 IsByteOrEnd step.End = ⊤
 IsByteOrEnd step.Failed = ⊥
 
--- a section was read, and the mark behind it: what follows it is left
+-- a section was read, and the mark after it: what follows it is left
 pub record SectionOf (front text : List ℕ) (new : Option (List ℕ)) : Type 0 where
   pub rest : List ℕ
   pub new_is : new ≡ Some rest
@@ -87,6 +87,6 @@ abbrev pub first_or : List ℕ → Option (List ℕ × List ℕ) → List ℕ
 first_or text None = text
 first_or text (Some sections) = sections.0
 
--- what stands before the first line of exactly %%, or all where there is none
+-- what is before the first line of exactly %%, or all if there is none
 abbrev pub before_mark : List ℕ → List ℕ
 before_mark text = first_or text (sections_of text)

@@ -28,7 +28,7 @@ use Rattle.node.specs.Stream.{HasNoEnd, WholeLine}
 use Rattle.node.specs.declared.input.TheConstants.{MOST_LINE}
 use Rattle.node.specs.Turns.{Holds, batch_word, checkpoint_word, most_body}
 
--- ---- what errors are told as
+-- ---- what errors are answered as
 
 abbrev pub serve_error_of : TellError → ServeError
 serve_error_of untold.Memory = fault.Memory
@@ -36,8 +36,8 @@ serve_error_of untold.Write = fault.Write
 
 -- ---- one answer
 
--- where a node of the part refuses a command and the bytes after it, whatever it has, this is so of the line that says
--- it: there is no such target, or it is the node's own partition; the bytes are no batch of the plan, or one that is not
+-- if a node of the part refuses a command and the bytes after it, whatever it has, this is so of the line that says it:
+-- there is no such target, or it is the node's own partition; the bytes are no batch of the plan, or one that is not
 -- for the partition; they are no checkpoint of the part
 abbrev pub IfRefused : PartValue → Command → List ℕ → (List ℕ → Type 0) → Type 0
 IfRefused part (order.Send q) body P =
@@ -53,8 +53,8 @@ IfRefused part (order.Recover n) body P =
 IfRefused part c body P = ⊤
 
 -- what a replica v was asked by a command and the bytes after it was answered by a text, and it is w now. For each
--- holding of a job that v has, and whatever these bytes ask for, the text is the answer, and w has the holding after it.
--- Where the bytes are refused whatever v has, the text is the line that says so, and w is v
+-- holding of a job that v has, and whatever these bytes ask for, the text is the answer, and w has the holding after
+-- it. If the bytes are refused whatever v has, the text is the line that says so, and w is v
 pub record Steps (network : Network) (c : Command) (body : List ℕ) (v w : State)
     (old new : Option (List ℕ)) : Type 0 where
   pub text : List ℕ
@@ -147,7 +147,7 @@ pub record LacksRoom (part : PartValue) (left left' : Option (List ℕ)) : Type 
   pub consumed : Consumes left left' front
 
 -- the request of that number cannot be read for what it says, or numbers end before it; or memory is refused within its
--- line, or where all of it is there; of failed calls nothing is said
+-- line, or when all of it is there; of failed calls nothing is said
 abbrev pub IsNoRequest : PartValue → ℕ → ServeError → Option (List ℕ) → Option (List ℕ) → Type 0
 IsNoRequest part n (fault.Command k) left left' = (k ≡ n) × NoCommand left left'
 IsNoRequest part n (fault.Length k) left left' = (k ≡ n) × TooLong part left left'
@@ -186,8 +186,8 @@ AreTold j p labels h (r ∷ rs) (text ∷ texts) =
     AnswersOne j labels h a text × AreTold j p labels (after_asked j h a) rs texts
 AreTold j p labels h rs texts = ⊥
 
--- there is a text for each request: where a node of the part refuses it, whatever the node has, the text is the line
--- that says so
+-- there is a text for each request: if a node of the part refuses it, whatever the node has, the text is the line that
+-- says so
 unfoldable pub AreNamed : PartValue → List Request → List (List ℕ) → Type 0
 AreNamed part [] [] = ⊤
 AreNamed part (r ∷ rs) (text ∷ texts) =
@@ -222,7 +222,7 @@ pub record StopsServing (network : Network) (part : PartValue) (e : ServeError)
   pub some : ServesSome network number left mid v w old new
   pub at : IsNoRequest part (number + 1) e mid left'
 
--- requests were read, and then memory was refused within the line of the next, or where all of it was there
+-- requests were read, and then memory was refused within the line of the next, or when all of it was there
 pub record StopsWanting (part : PartValue) (left left' : Option (List ℕ)) : Type 0 where
   pub requests : List Request
   pub each : All (IsRequest part) requests
@@ -239,8 +239,8 @@ pub record ServesRest (network : Network) (left left' : Option (List ℕ)) (v w 
 
 -- ---- a node from its start
 
--- a node of partition p answered each request by a text, one after the other. Where a request is refused whatever the
--- node has, its text is the line that says so. And as many requests, from the first on, as ask for something have the
+-- a node of partition p answered each request by a text, one after the other. If a request is refused whatever the node
+-- has, its text is the line that says so. And as many requests, from the first on, as ask for something have the
 -- answers as their texts, whatever follows them
 pub record AnswersEach (j : Job) (p : ℕ) (labels : List (List ℕ)) (h : Holding)
     (rs : List Request) (old new : Option (List ℕ)) : Type 0 where
@@ -251,7 +251,7 @@ pub record AnswersEach (j : Job) (p : ℕ) (labels : List (List ℕ)) (h : Holdi
       AllAsk j p front more → AnswersAll j labels h more (concat (take (length front) texts))
 
 -- the job of the input was read, and all that follows it is requests, which a node of partition p was asked from its
--- start on, and answered each: where each delivered batch is a true one, or none for the partition, and each checkpoint
+-- start on, and answered each: if each delivered batch is a true one, or none for the partition, and each checkpoint
 -- stands for the job, or is none of the partition, by the definition's answers
 pub record ServesNode (s : Settings) (counted : Bool) (p : ℕ)
     (left left' old new : Option (List ℕ)) : Type 0 where

@@ -65,7 +65,7 @@ pub record CutsBody (size : ℕ) (old new : Option (List ℕ)) : Type 0 where
   pub fewer : length bytes < size
   pub end : IsAtEnd new
 
--- a call of the stream failed where the result is this fault, and none where it is another
+-- a call of the stream failed if the result is this fault, and none if it is another
 pub record FailsAs {S A : Type 0} (failed : S → ℕ) (old new : S) (result fault : A) : Type 0 where
   pub some : result ≡ fault → RisesByOne (failed old) (failed new)
   pub none : result ≢ fault → failed new ≡ failed old

@@ -1,4 +1,4 @@
--- What a node says to a command, and how it is told.
+-- What a node says to a command, and how it is written.
 use Rattle.std.specs.Prelude.{◌≡◌, ℕ, List, [], ◌∷◌, codes, decimal, max, Option, Result, Ok, Err, IsErr}
 use Rattle.std.specs.Io.KnownBytes.{Appends}
 use Rattle.ball_model.specs.declared.names.MergeError.{MergeError}
@@ -49,7 +49,8 @@ pub record TurnsTo (j : Job) (p : ℕ) (a : Answer) (h : Holding) (v : State)
   pub says : r ≡ reply.Answered a
   pub holds : Holds j p h v
 
--- a text was appended that is told of a replica v: for each holding of a job that v has it is the one that is made of them
+-- a text was appended that is said of a replica v: for each holding of a job that v has it is the one that is made of
+-- them
 pub record AppendsOf (v : State) (text_of : Job → Holding → List ℕ)
     (old new : Option (List ℕ)) : Type 0 where
   pub text : List ℕ
@@ -57,7 +58,7 @@ pub record AppendsOf (v : State) (text_of : Job → Holding → List ℕ)
   pub told : (j : Job) (h : Holding) → HasHolding j h v → text ≡ text_of j h
 
 -- a replica v was brought the batch, true or not, and is w: it shows what it showed, and holds what it held, and the
--- batch's name where that was new
+-- batch's name if that was new
 pub record IsBrought (b : BatchValue) (v w : State) : Type 0 where
   pub shown : SameShown w v
   pub names : HoldsAfter (is_new (take_answer v b)) b.name v w
@@ -82,7 +83,7 @@ abbrev pub GivesOrWants : (State → Type 0) → Result State KeepError → Type
 GivesOrWants P (Ok v) = P v
 GivesOrWants P (Err e) = e ≡ no_checkpoint.Memory
 
--- what is said of a merge, after which the replica is at superstep t, but where memory was refused
+-- what is said of a merge, after which the replica is at superstep t, unless memory was refused
 abbrev pub SaysMerged : {E : Type 0} → Result (Unit {0}) MergeError → ℕ → Result Reply E → Type 0
 SaysMerged (Ok u) t said = said ≡ Ok (reply.Answered (answer.Merged t))
 SaysMerged (Err unmerged.Memory) t said = IsErr said

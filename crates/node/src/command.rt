@@ -13,7 +13,7 @@ use world::script::{cut, part};
 /// Lengths are below it: they have at most 18 digits.
 const MOST: u64 = 1_000_000_000_000_000_000;
 
-/// What a node is told to do. Behind the line of some commands follow so many bytes.
+/// What a node is to do. After the line of some commands follow so many bytes.
 #[derive(Clone, Copy, Debug, PartialEq, Eq)]
 pub enum Command {
     /// It tells another partition the batch of its superstep.
@@ -24,7 +24,7 @@ pub enum Command {
     Close,
     /// It gives its checkpoint.
     Keep,
-    /// It goes back to the checkpoint that the bytes are, or to the start where there are none.
+    /// It goes back to the checkpoint that the bytes are, or to the start if there are none.
     Restart { length: u64 },
     /// It takes over what the checkpoint has that the bytes are.
     Recover { length: u64 },
@@ -52,7 +52,7 @@ pub fn length_of(command: Command) -> u64
     }
 }
 
-// The value of digits, or `MOST` where it is not below that.
+// The value of digits, or `MOST` if it is not below that.
 fn value(word: &[u8]) -> u64
     ensures { result ≡ min (value_from 0 word.now) most_size }
 {
@@ -115,7 +115,7 @@ fn sized_command(verb: &[u8], word: &[u8]) -> Option<Command>
     }
 }
 
-/// The command that a line says. Between its words stands one space.
+/// The command that a line says. Between its words is one space.
 pub fn command_of(line: &[u8]) -> Option<Command>
     ensures { result ≡ command_in (fields 32 line.now) }
 {

@@ -110,7 +110,7 @@ fn read_bytes<R: CountedRead>(
     }
 }
 
-// What a refusal of the checkpoint of partition `p` is told as.
+// What a refusal of the checkpoint of partition `p` is answered as.
 fn checkpoint_fault(p: u16, error: KeepError) -> GatherError
     ensures told { result ≡ checkpoint_fault p error }
     ensures read { result ≢ GatherError.Read }
@@ -211,7 +211,7 @@ impl<'a, V: Watch> Gathering<'a, V> {
         }
     }
 
-    // Adds the replica of the checkpoint of partition `p` that follows to those before it. The watch is told of it.
+    // Adds the replica of the checkpoint of partition `p` that follows to those before it. The watch is called for it.
     fn add_replica<R: CountedRead>(
         &self,
         p: u16,
@@ -243,7 +243,7 @@ impl<'a, V: Watch> Gathering<'a, V> {
     }
 
     // Reads the replicas of the checkpoints of all partitions into `replicas`, which is empty, up to the end of the
-    // input. The watch is told of each. The edges are walked over once for the masks of all parts.
+    // input. The watch is called for each. The edges are walked over once for the masks of all parts.
     fn read_replicas<R: CountedRead>(
         &self,
         reader: &mut R,
@@ -269,8 +269,8 @@ impl<'a, V: Watch> Gathering<'a, V> {
         read_end(reader)
     }
 
-    // Reads the checkpoints of all partitions, and writes their report. The figures are made by at most so many threads;
-    // where 0 are asked for, by all processors.
+    // Reads the checkpoints of all partitions, and writes their report. The figures are made by at most so many
+    // threads; if 0 are asked for, by all processors.
     fn gather_parts<T: AllocGlobal + Threads + Sync, R: CountedRead, W: CountedWrite>(
         &self,
         rt: &T,
@@ -286,7 +286,7 @@ impl<'a, V: Watch> Gathering<'a, V> {
         ensures refused { IfErr result (IsNoReport
             (job_of self.now.graph.now.graph self.now.plan.now)
             (R.remaining reader.old) (R.remaining reader.new)) }
-        // Nothing was written, or a beginning of the report where memory was refused or a write failed.
+        // Nothing was written, or a beginning of the report if memory was refused or a write failed.
         ensures kept { IfErr result (λ e. IsUnwritten e →
             Keeps (W.contents writer.old) (W.contents writer.new)) }
         ensures front { OnErr result (WritesFront
@@ -308,12 +308,12 @@ impl<'a, V: Watch> Gathering<'a, V> {
 
 /// Reads a job and the checkpoints of all its partitions at the end of their run, and writes their report.
 ///
-/// For each partition in order a line `part L`, and its checkpoint of L bytes. They are checked as they come, each whole
-/// before the next is read; then that nothing follows, and then that all are of the end of one run. Nothing is written
-/// before that. Memory is taken as bytes come, and may be refused at each; where it is refused or a write fails while the
-/// report is written, a beginning of it was written. The watch is called once the job is read, and told of each checkpoint
-/// that was read, as of a close that went on to its superstep. The figures are made by at most so many threads as the
-/// options say; where they say 0, by all processors.
+/// For each partition in order a line `part L`, and its checkpoint of L bytes. They are checked as they come, each
+/// whole before the next is read; then that nothing follows, and then that all are of the end of one run. Nothing is
+/// written before that. Memory is taken as bytes come, and may be refused at each; if it is refused or a write fails
+/// while the report is written, a beginning of it was written. The watch is called once the job is read, and for each
+/// checkpoint that was read, as for a close that went on to its superstep. The figures are made by at most so many
+/// threads as the options say; if they say 0, by all processors.
 pub fn gather<T: AllocGlobal + Threads + Sync, R: CountedRead, W: CountedWrite, V: Watch>(
     rt: &T,
     state: RandomState,
@@ -328,13 +328,13 @@ pub fn gather<T: AllocGlobal + Threads + Sync, R: CountedRead, W: CountedWrite, 
     // Which refusal it is.
     ensures refused { IfErr result (HasNoReport (settings_of job.now.options) job.now.counted
         (R.remaining reader.old) (R.remaining reader.new)) }
-    // Nothing was written, or a beginning of the report where memory was refused or a write failed.
+    // Nothing was written, or a beginning of the report if memory was refused or a write failed.
     ensures kept { IfErr result (λ e. IsUnwritten e →
         Keeps (W.contents writer.old) (W.contents writer.new)) }
     ensures front { OnErr result (WritesFrontOfJob (settings_of job.now.options) job.now.counted
         (R.remaining reader.old) (R.remaining reader.new)
         (W.contents writer.old) (W.contents writer.new)) }
-    // A call failed exactly where that is told.
+    // A call failed exactly if that is the answer.
     ensures failed { result ≡ Err GatherError.Read →
         RisesByOne (R.failed_calls reader.old) (R.failed_calls reader.new) }
     ensures unread { result ≡ Err (GatherError.Job no_job.Read) →

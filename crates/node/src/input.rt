@@ -90,7 +90,7 @@ pub enum Body {
     Failed,
 }
 
-// Reads so many bytes, for which memory was refused, and lets them go.
+// Reads so many bytes, for which memory was refused, and drops them.
 fn pass_over<R: CountedRead>(reader: &mut R, size: u64) -> Body
     ensures some { result ≢ Body.Whole }
     ensures memory { result ≡ Body.Memory →
@@ -113,8 +113,8 @@ fn pass_over<R: CountedRead>(reader: &mut R, size: u64) -> Body
     Body::Memory
 }
 
-/// Reads so many bytes into `body`, which is empty. Memory is taken as they come; where it is refused, the rest is read
-/// and let go, so that a body that is cut is told as such.
+/// Reads so many bytes into `body`, which is empty. Memory is taken as they come; if it is refused, the rest is read
+/// and dropped, so that a body that is cut is answered as such.
 pub fn read_body<R: CountedRead>(reader: &mut R, size: u64, body: &mut Vec<u8>) -> Body
     requires { body.old.items ≡ [] }
     ensures whole { result ≡ Body.Whole →

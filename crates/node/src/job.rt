@@ -31,7 +31,7 @@ use std::sync::Arc;
 pub struct JobInput {
     /// What is asked of the job.
     pub options: JobOptions,
-    /// Whether a list of counted vertices, and a line of %%, stand after the edge list.
+    /// Whether a list of counted vertices, and a line of %%, are after the edge list.
     pub counted: bool,
 }
 
@@ -108,7 +108,7 @@ fn read_list<R: CountedRead>(reader: &mut R, list: &mut Vec<u8>) -> Result<(), J
         (R.remaining reader.old) (R.remaining reader.new)) }
     ensures few { OnOk result (length list.new.items ≤ MOST_BYTES) }
     ensures refused { IfErr result (IsUnlisted (R.remaining reader.old)) }
-    // Memory is refused only where more of the list follows, and it is not too long so far.
+    // Memory is refused only if more of the list follows, and it is not too long so far.
     ensures memory { result ≡ Err JobInputError.Memory →
         GoesBeyond (length list.new.items) (R.remaining reader.old) }
     ensures room { result ≡ Err JobInputError.Memory → length list.new.items ≤ MOST_BYTES }
@@ -130,7 +130,7 @@ fn read_list<R: CountedRead>(reader: &mut R, list: &mut Vec<u8>) -> Result<(), J
     Err(JobInputError::ListSize)
 }
 
-// Counts only the vertices of a list, where there is one.
+// Counts only the vertices of a list, if there is one.
 fn count_listed<R: CountedRead>(
     alloc: Global,
     graph: &mut Graph,
@@ -178,9 +178,9 @@ pub fn part_of(alloc: Global, graph: &Graph, plan: &Plan, p: u16) -> Result<Arc<
 
 /// The graph and the plan of a job, read up to the mark after it, and how many records its edge list has.
 ///
-/// The edge list is refused as it comes. That no mark is after it is told once all of it is read, and says a network;
-/// that none is after the list of counted vertices, whatever that says. Then the list is refused, and then the plan.
-/// Memory is taken as bytes come, and may be refused at each.
+/// The edge list is refused as it comes. That no mark is after it is answered once all of it is read, and says a
+/// network; that none is after the list of counted vertices, whatever that says. Then the list is refused, and then the
+/// plan. Memory is taken as bytes come, and may be refused at each.
 pub fn read_job<R: CountedRead>(
     alloc: Global,
     state: RandomState,
@@ -195,7 +195,7 @@ pub fn read_job<R: CountedRead>(
     // Which refusal it is.
     ensures refused { IfErr result (IsNoJob (settings_of job.now.options) job.now.counted
         (R.remaining reader.old) (R.remaining reader.new)) }
-    // A call failed exactly where that is told.
+    // A call failed exactly if that is the answer.
     ensures failed { result ≡ Err JobInputError.Read →
         RisesByOne (R.failed_calls reader.old) (R.failed_calls reader.new) }
     ensures counted { result ≢ Err JobInputError.Read →

@@ -1,4 +1,4 @@
-//! What nodes of a job say is what they may be told: the contract of each function is the law, and its body is empty.
+//! What nodes of a job say is what they may be given: the contract of each function is the law, and its body is empty.
 
 ghost use Rattle.node.specs.Laws.{KeptIsTaken, SentIsTrue};
 

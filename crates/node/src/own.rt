@@ -79,7 +79,7 @@ pub fn tell_own<W: CountedWrite>(
     requires { replica.now.part.plan.vertices ≡ graph.now.graph.vertices }
     ensures done { OnOk result (AppendsOf replica.now (λ j h. figures_text j graph.now.labels h)
         (W.contents writer.old) (W.contents writer.new)) }
-    // A call failed exactly where that is told.
+    // A call failed exactly if that is the answer.
     ensures write { result ≡ Err TellError.Write →
         RisesByOne (W.failed_calls writer.old) (W.failed_calls writer.new) }
     ensures written { result ≢ Err TellError.Write →

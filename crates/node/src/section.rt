@@ -70,7 +70,7 @@ impl Cut {
     }
 }
 
-// What follows the end of a line, where one stands at the front.
+// What follows the end of a line, if one is at the front.
 fn after_line(bytes: &[u8]) -> Option<&[u8]>
     ensures { option_map (λ rest. rest.now) result ≡ after_line bytes.now }
 {
@@ -85,7 +85,7 @@ fn after_line(bytes: &[u8]) -> Option<&[u8]>
     }
 }
 
-/// What follows a line of exactly %%, where one stands at the front.
+/// What follows a line of exactly %%, if one is at the front.
 pub fn after_mark(bytes: &[u8]) -> Option<&[u8]>
     ensures { option_map (λ rest. rest.now) result ≡ after_mark bytes.now }
 {
@@ -110,7 +110,7 @@ fn is_front(bytes: &[u8]) -> bool
 }
 
 // Reads ahead as long as what was read may be the front of a line of %%, and tells whether no call failed: then it is
-// known whether a mark stands there, or the input has ended.
+// known whether a mark is there, or the input has ended.
 fn look<R: CountedRead>(reader: &mut R, ahead: &mut ArrayVec<u8, 4>) -> bool
     requires { is_front ahead.old.items ≡ true }
     ensures same { Keeps (prepend_known ahead.old.items (R.remaining reader.old))
@@ -139,7 +139,7 @@ fn look<R: CountedRead>(reader: &mut R, ahead: &mut ArrayVec<u8, 4>) -> bool
 pub enum SectionStep {
     /// The next byte.
     Byte(u8),
-    /// A mark stood here, and is passed.
+    /// A mark was here, and is passed.
     Mark,
     /// The input ended.
     End,
@@ -147,7 +147,7 @@ pub enum SectionStep {
     Failed,
 }
 
-// The first byte that was read ahead, where there is one.
+// The first byte that was read ahead, if there is one.
 fn first_of(ahead: &mut ArrayVec<u8, 4>) -> SectionStep
     requires { is_tail ahead.old.items ≡ true }
     ensures byte { (b : ℕ) → result ≡ SectionStep.Byte b → ahead.old.items ≡ b ∷ ahead.new.items }

@@ -74,7 +74,7 @@ fn tell_batch<W: CountedWrite>(
     write_lines(writer, &bytes)
 }
 
-// Writes that there is no such partition to be told anything.
+// Writes that there is no such partition to be sent anything.
 fn tell_no_target<W: CountedWrite>(line: &mut Vec<u8>, writer: &mut W) -> Result<(), TellError>
     ensures done { OnOk result (Appends (W.contents writer.old) (W.contents writer.new)
         (refusal_line WorldError.NoTarget)) }
@@ -85,7 +85,7 @@ fn tell_no_target<W: CountedWrite>(line: &mut Vec<u8>, writer: &mut W) -> Result
     write_lines(writer, line)
 }
 
-// A node tells another partition the batch of its superstep, where there is such a one.
+// A node tells another partition the batch of its superstep, if there is such a one.
 fn answer_send<W: CountedWrite>(
     alloc: Global,
     replica: &Replica,
@@ -126,7 +126,7 @@ fn answer_deliver<W: CountedWrite>(
     tell(reply, line, writer)
 }
 
-// A node closes its superstep. A watch is told where it went on.
+// A node closes its superstep. A watch is called if it went on.
 fn answer_close<W: CountedWrite, V: Watch>(
     session: &mut Session,
     watch: &V,
@@ -155,9 +155,9 @@ fn answer_keep<W: CountedWrite>(
         (W.contents writer.old) (W.contents writer.new)) }
     ensures write { FailsAs W.failed_calls writer.old writer.new result (Err TellError.Write) }
 {
-    // the limits of a replica are told with its superstep, those of its figures with these
+    // the limits of a replica come with its superstep, those of its figures with these
     let superstep = replica.superstep();
-    let _tallies = replica.tallies();
+    let _limits = replica.tallies();
     line.clear();
     put_kept(line, superstep, checkpoint_length(replica))?;
     write_lines(writer, line)?;
@@ -422,7 +422,7 @@ impl<'a, V: Watch> Server<'a, V> {
     }
 
     // Answers commands until the input ends. Each answer is passed on before the next command is read. The watch is
-    // called where the node went on by a close, before that is answered.
+    // called if the node went on by a close, before that is answered.
     fn serve_commands<R: CountedRead, W: CountedWrite>(
         &self,
         session: &mut Session,
@@ -434,12 +434,12 @@ impl<'a, V: Watch> Server<'a, V> {
             (R.remaining reader.old) (R.remaining reader.new)
             session.old session.new (W.contents writer.old) (W.contents writer.new)) }
         ensures part { session.new.part ≡ session.old.part }
-        // What was answered before a request that cannot be read stands.
+        // What was answered before a request that cannot be read stays.
         ensures stopped { IfErr result (λ e. (IsOfMachine e → ⊥) →
             StopsServing self.now.graph.now session.old.part e
             (R.remaining reader.old) (R.remaining reader.new)
             session.old session.new (W.contents writer.old) (W.contents writer.new)) }
-        // Memory is refused only where what was read is requests, and the front of a line or all of a request.
+        // Memory is refused only if what was read is requests, and the front of a line or all of a request.
         ensures wanting { result ≡ Err ServeError.Memory →
             StopsWanting session.old.part (R.remaining reader.old) (R.remaining reader.new) }
         ensures read { FailsAs R.failed_calls reader.old reader.new result (Err ServeError.Read) }
@@ -498,8 +498,9 @@ impl<'a, V: Watch> Server<'a, V> {
     }
 }
 
-/// Reads a job, and answers the commands for the node of one of its partitions. That there is no such partition is told
-/// after all other faults of the job. The watch is called once the job is read, and where the node went on by a close.
+/// Reads a job, and answers the commands for the node of one of its partitions. That there is no such partition is
+/// answered after all other faults of the job. The watch is called once the job is read, and each time the node went on
+/// by a close.
 pub fn serve_node<R: CountedRead, W: CountedWrite, V: Watch>(
     alloc: Global,
     state: RandomState,
@@ -512,24 +513,23 @@ pub fn serve_node<R: CountedRead, W: CountedWrite, V: Watch>(
     ensures served { OnOk result (ServesNode (settings_of job.now.options) job.now.counted part
         (R.remaining reader.old) (R.remaining reader.new)
         (W.contents writer.old) (W.contents writer.new)) }
-    // What was answered before a request that cannot be read stands.
+    // What was answered before a request that cannot be read stays.
     ensures stopped { (e : Fault) → result ≡ Err (ServeNodeError.Serve e) → (IsOfMachine e → ⊥) →
         StopsNode (settings_of job.now.options) job.now.counted part e
         (R.remaining reader.old) (R.remaining reader.new)
         (W.contents writer.old) (W.contents writer.new) }
-    // Behind the job memory is refused only where what was read is requests, and the front of a line or all of a
-    // request.
+    // After the job memory is refused only if what was read is requests, and the front of a line or all of a request.
     ensures wanting { result ≡ Err (ServeNodeError.Serve ServeError.Memory) →
         WantsNode (settings_of job.now.options) job.now.counted part
         (R.remaining reader.old) (R.remaining reader.new) }
-    // Where there is no job nothing is answered.
+    // If there is no job nothing is answered.
     ensures jobless { (e : NoJob) → result ≡ Err (ServeNodeError.Job e) →
         Keeps (W.contents writer.old) (W.contents writer.new) }
     // Which refusal it is.
     ensures refused { (e : NoJob) → result ≡ Err (ServeNodeError.Job e) →
         HasNoNode (settings_of job.now.options) job.now.counted part
         (R.remaining reader.old) (R.remaining reader.new) e }
-    // A call failed exactly where that is told.
+    // A call failed exactly if that is the answer.
     ensures read { result ≡ Err (ServeNodeError.Serve ServeError.Read) →
         RisesByOne (R.failed_calls reader.old) (R.failed_calls reader.new) }
     ensures unread { result ≡ Err (ServeNodeError.Job JobInputError.Read) →

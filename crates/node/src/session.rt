@@ -100,7 +100,7 @@ impl Session {
             IfOk result (TurnsTo j p (taken_answer (held_take_answer j h name))
             (held_after j h (Take name)) self.new) }
         ensures part { self.new.part ≡ self.old.part }
-        // Which refusal it is where the bytes spell no batch of the plan.
+        // Which refusal it is if the bytes spell no batch of the plan.
         ensures named { IfOk result (SaysOfBatch self.old.part.plan bytes.now) }
         ensures unread { (e : BatchError) → result ≡ Ok (reply.NoBatch e) → self.new ≡ self.old }
         // Whichever batch of the plan it is: of which job, and of which partitions.
@@ -110,7 +110,7 @@ impl Session {
             is_new (take_answer self.old b) ≡ false → self.new ≡ self.old }
         ensures brought { (b : BatchValue) → batch_at self.old.part.plan bytes.now ≡ Ok b →
             IfOk result (λ _. IsBrought b self.old self.new) }
-        // Memory is refused only where the bytes spell a batch of the plan.
+        // Memory is refused only if the bytes spell a batch of the plan.
         ensures spelled { OnErr result (IsOk (batch_at self.old.part.plan bytes.now)) }
         ensures refused { OnErr result (self.new ≡ self.old) }
     {
@@ -149,7 +149,7 @@ impl Session {
         answer_to_close(closed)
     }
 
-    /// Goes back to the checkpoint that the bytes are, or to the start where there are none. Where the bytes are no
+    /// Goes back to the checkpoint that the bytes are, or to the start if there are none. If the bytes are no
     /// checkpoint of the part the replica stays as it was. The error is that memory was refused, and changes nothing.
     pub fn restart(&mut self, alloc: Global, bytes: &[u8]) -> Result<Reply, AllocError>
         ensures anew { (j : Job) (p : ℕ) (h : Holding) → Holds j p h self.old → bytes.now ≡ [] →
@@ -159,11 +159,11 @@ impl Session {
             bytes.now ≢ [] → IsGivenBack j p bytes.now d →
             IfOk result (TurnsTo j p (answer.Restarted d.superstep) d self.new) }
         ensures part { self.new.part ≡ self.old.part }
-        // Which refusal it is where the bytes are no checkpoint of the part.
+        // Which refusal it is if the bytes are no checkpoint of the part.
         ensures named { bytes.now ≢ [] →
             IfOk result (SaysOfCheckpoint self.old.part bytes.now) }
         ensures started { bytes.now ≡ [] → IfOk result IsAnswered }
-        // Whichever checkpoint of the part they are: the replica is what they spell, and its superstep is told.
+        // Whichever checkpoint of the part they are: the replica is what they spell, and its superstep is answered.
         ensures spelled { bytes.now ≢ [] → IfOk result (λ r. IsAnswered r →
             IsReplicaSpelling self.new bytes.now) }
         ensures answer { IfOk result (λ r. IsAnswered r →
@@ -233,7 +233,7 @@ impl Session {
         }
     }
 
-    /// Takes over what the checkpoint has that the bytes are. Where they are no checkpoint of the part the replica stays
+    /// Takes over what the checkpoint has that the bytes are. If they are no checkpoint of the part the replica stays
     /// as it was. The error is that memory was refused, and changes nothing.
     pub fn recover(&mut self, alloc: Global, bytes: &[u8]) -> Result<Reply, AllocError>
         ensures turned { (j : Job) (p : ℕ) (h c : Holding) → Holds j p h self.old →
@@ -241,11 +241,11 @@ impl Session {
             IfOk result (TurnsTo j p (answer.Merged (join_of h c).superstep) (join_of h c)
             self.new) }
         ensures part { self.new.part ≡ self.old.part }
-        // Which refusal it is where the bytes are no checkpoint of the part.
+        // Which refusal it is if the bytes are no checkpoint of the part.
         ensures named { IfOk result (SaysOfCheckpoint self.old.part bytes.now) }
         ensures unread { (e : KeepError) → result ≡ Ok (reply.NoCheckpoint e) →
             self.new ≡ self.old }
-        // Whichever checkpoint of the part they are: what it spells is taken over, and the superstep is told.
+        // Whichever checkpoint of the part they are: what it spells is taken over, and the superstep is answered.
         ensures taken { IfOk result (λ r. IsAnswered r →
             TakesSpelled bytes.now self.old self.new) }
         ensures answer { IfOk result (λ r. IsAnswered r →
@@ -302,7 +302,7 @@ impl Session {
     }
 }
 
-// A snapshot of a replica, which is let go.
+// A snapshot of a replica, which is dropped.
 fn snapshot_of(alloc: Global, mut replica: Replica) -> Result<Snapshot, AllocError>
     ensures { IfOk result (λ s. s ≡ replica) }
 {
@@ -337,7 +337,7 @@ fn no_checkpoint(error: KeepError) -> Result<Reply, AllocError>
     }
 }
 
-// What a world answers where a replica that is at that superstep now said this of a merge. The error is that memory was
+// What a world answers if a replica that is at that superstep now said this of a merge. The error is that memory was
 // refused.
 fn answer_to_merge(merged: Result<(), MergeError>, superstep: u32) -> Result<Reply, AllocError>
     ensures { SaysMerged merged superstep result }

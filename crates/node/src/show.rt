@@ -1,4 +1,4 @@
-//! What a node has, told line by line: as a world tells it, and a failed call is told whatever the node holds.
+//! What a node has, line by line: as a world tells it, and a failed call is answered whatever the node holds.
 
 ghost use Rattle.std.specs.Prelude.{◌≡◌, ◌≢◌, ◌<◌, ◌%◌, Err, OnOk};
 ghost use Rattle.std.specs.List.{flat_map};
@@ -59,7 +59,7 @@ pub fn tell_shown<W: CountedWrite>(
 ) -> Result<(), TellError>
     ensures done { OnOk result (AppendsOf replica.now (λ j h. show_text j id h)
         (W.contents writer.old) (W.contents writer.new)) }
-    // A call failed exactly where that is told.
+    // A call failed exactly if that is the answer.
     ensures write { result ≡ Err TellError.Write →
         RisesByOne (W.failed_calls writer.old) (W.failed_calls writer.new) }
     ensures written { result ≢ Err TellError.Write →

@@ -1,6 +1,6 @@
-//! What no clause says, and no run of the program shows: what a watch is told, and that each answer is passed on.
-//! (`examples/check` tries the rest: answers, checkpoints, reports, and inputs that are damaged or cut.) Counters have 16
-//! registers under seed 0.
+//! What no clause says, and no run of the program shows: what a watch is called with, and that each answer is passed
+//! on. (`examples/check` tries the rest: answers, checkpoints, reports, and inputs that are damaged or cut.) Counters
+//! have 16 registers under seed 0.
 
 mod flushed;
 mod vectors;

@@ -1,11 +1,11 @@
-//! What a watch is told of a replica.
+//! What a watch is called with for a replica.
 
 use ball_model::NodeId;
 use ball_model::world::Answer;
 use edgelist::Watch;
 use replica::{Replica, Shown};
 
-/// A watch is told that a replica, the only one of its partition, has gone on to its superstep.
+/// Tells a watch that a replica, the only one of its partition, has gone on to its superstep.
 pub fn show_turn<V: Watch>(replica: &Replica, watch: &V) {
     let superstep = replica.superstep();
     let part = replica.partition();
@@ -14,7 +14,7 @@ pub fn show_turn<V: Watch>(replica: &Replica, watch: &V) {
     watch.after_close(node, superstep, replica.changed_count(), vertices);
 }
 
-/// A watch is told so where that is the answer to a close.
+/// Tells a watch so if that is the answer to a close.
 pub fn show_close<V: Watch>(replica: &Replica, answer: Answer, watch: &V) {
     if let Answer::Closed { .. } = answer {
         show_turn(replica, watch);

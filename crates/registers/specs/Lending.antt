@@ -13,6 +13,6 @@ with_cells table cells = record table {
       (take (room_for table) (cells ++ drop (length cells) (concat table.rows)));
 }
 
--- the table ends with the registers that are last behind r
+-- the table ends with the registers that r has at last
 abbrev pub LendsCells : MutBor Table → MutBor (List ℕ) → Fml
 LendsCells s r = Lends the_row (Array u8 0) s r (with_cells s.now)

@@ -5,7 +5,7 @@ use Rattle.std.specs.Prelude.{◌≡◌, ℕ, ◌<◌, ◌≤◌, Bool, true, fa
 abbrev pub AreBlank : List Bool → ℕ → ℕ → Type 0
 AreBlank marks from to = (k : ℕ) → from ≤ k → k < to → slice_index_or marks k false ≡ false
 
--- the first marked place from this one on, or the end where there is none
+-- the first marked place from this one on, or the end if there is none
 pub record IsNextMarked (marks : List Bool) (from next : ℕ) : Type 0 where
   pub low : from ≤ next
   pub high : next ≤ length marks

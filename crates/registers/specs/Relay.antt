@@ -33,7 +33,7 @@ pub record Marked : Type 0 where
   pub table : Table
   pub stale : List Bool
 
--- what a relay keeps: what is shown differs from the table behind it in stale rows alone
+-- what a relay keeps: what is shown differs from the table shown before it in stale rows alone
 abbrev pub IsRelay : Table → Option Marked → Type 0
 IsRelay shown behind = IfSome behind (λ b. DifferWhere b.stale b.table shown)
 
@@ -42,7 +42,7 @@ pub record HasRoomForTable (table : Table) (registers marks : ℕ) : Type 0 wher
   pub all : room_for table ≤ registers
   pub each : length table.rows ≤ marks
 
--- as many marks, and set where either is
+-- as many marks, each set if one of the two is
 pub record AreEither (ms ns both : List Bool) : Type 0 where
   pub long : length both ≡ length ms
   pub set : (i : ℕ) → slice_index_or both i false ≡

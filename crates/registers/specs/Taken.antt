@@ -7,8 +7,8 @@ abbrev pub AreThoseFrom : Table → ℕ → List (List ℕ) → ℕ → Type 0
 AreThoseFrom table from rows n = (k : ℕ) → k < n →
     slice_index_or rows k [] ≡ slice_index_or table.rows (from + k) []
 
--- the registers of some rows, from place `from` on: there is a mark for each, and where they are not marked they are
--- those of the table
+-- the registers of some rows, from place `from` on: there is a mark for each, and if they are not marked they are those
+-- of the table
 pub record CanTakeBlock (table : Table) (marks : List Bool) (from : ℕ) (cells : List ℕ)
     : Type 0 where
   pub inside : from + length marks ≤ length table.rows

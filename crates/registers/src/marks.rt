@@ -3,14 +3,14 @@
 ghost use Rattle.std.specs.Prelude.{◌+◌, ◌≤◌, ◌<◌, length, IsTrue};
 ghost use Rattle.registers.specs.Marks.{AreBlank, IsNextMarked};
 
-// How many marks are passed over at once, and how many where one of those is set.
+// How many marks are passed over at once, and how many if one of those is set.
 const BLOCK: usize = 64;
 
 const PIECE: usize = 8;
 
-/// The first marked place from `from` on, or the number of places where there is none.
+/// The first marked place from `from` on, or the number of places if there is none.
 ///
-/// Marks that are not set are passed over 64 at once, so that it costs little to find the few that are. Where `from`
+/// Marks that are not set are passed over 64 at once, so that it costs little to find the few that are. If `from`
 /// itself is marked, no other mark is looked at.
 #[inline]
 pub fn next_marked(marks: &[bool], from: usize) -> usize

@@ -19,19 +19,20 @@ use std::thread::Threads;
 
 /// Rows that can be handed out: what they become afterwards does not change what was handed out.
 ///
-/// Where nothing is handed out they change in place. Else they go on in a second table: in the one that was shown
-/// before, once nobody else holds it, which is brought up in those rows alone that changed since, and otherwise in
-/// room that was taken when the table was handed out and was not touched until then. So [`Relay::share`] and
-/// [`Relay::copied`] take memory, and no other call does.
+/// If nothing is handed out they change in place. Else they go on in a second table: in the one that was shown before,
+/// once nobody else holds it, which is brought up in those rows alone that changed since, and otherwise in room that
+/// was taken when the table was handed out and was not touched until then. So [`Relay::share`] and [`Relay::copied`]
+/// take memory for rows, [`Relay::put_marked`] that of its threads, and no other call takes any.
 ///
-/// They go on to rows that are ahead by [`Relay::go_on`], then by [`Relay::put`] for each row that changes, and then by
-/// [`Relay::leave_behind`]. So whoever reads a row as it was can put the one ahead while both are at hand.
+/// They go on to rows that are ahead by [`Relay::go_on`], then by [`Relay::put`] for each row that changes, or
+/// [`Relay::put_marked`] for all of them, and then by [`Relay::leave_behind`]. So whoever reads a row as it was can put
+/// the one ahead while both are at hand.
 pub struct Relay {
-    // what is shown, where nothing is handed out
+    // what is shown, if nothing is handed out
     own: Rows,
-    // what is shown, where it was handed out
+    // what is shown, if it was handed out
     out: Option<Shared>,
-    // what was shown before, where that was handed out
+    // what was shown before, if that was handed out
     behind: Option<Behind>,
     // room that is left over
     spare: Option<Vec<u8>>,
@@ -48,7 +49,7 @@ impl Model for Relay {
     ghost invariant = { λ r. IsRelay (shown_of r.own r.out) r.behind };
 }
 
-// Written out, and so one call wherever rows are let go: the checker reads a derived one again at each place.
+// Written out, and so one call wherever rows are dropped: the checker reads a derived one again at each place.
 impl Drop for Relay {
     fn drop(self) {
         let Relay {
@@ -121,12 +122,12 @@ impl Relay {
         }
     }
 
-    /// Makes ready for the rows of `ahead`, from which these differ in marked rows alone: what is shown afterwards differs
-    /// from them in marked rows alone too. Where the rows were handed out, the answer is what they were, to be left behind
-    /// once each marked row was put. Else they stay as they are. It takes no memory.
+    /// Makes ready for the rows of `ahead`, from which these differ in marked rows alone: what is shown afterwards
+    /// differs from them in marked rows alone too. If the rows were handed out, the answer is what they were, to be
+    /// left behind once each marked row was put. Else they stay as they are. It takes no memory.
     ///
-    /// It takes no time where nothing is handed out, and else time in proportion to the rows that were marked in the call
-    /// before, and to the marks. Where there is no table from before that one, or somebody still holds it, all rows are
+    /// It takes no time if nothing is handed out, and else time in proportion to the rows that were marked in the call
+    /// before, and to the marks. If there is no table from before that one, or somebody still holds it, all rows are
     /// copied.
     pub fn go_on(&mut self, ahead: &Rows, marks: &[bool]) -> Option<Behind>
         requires { DifferWhere marks.now self.old ahead.now }
@@ -186,7 +187,7 @@ impl Relay {
         take_over(rt, depth, own, ahead, marks);
     }
 
-    /// What the rows were before they went on is what is behind from now on.
+    /// From now on what the rows were before they went on is kept as the table shown before.
     pub fn leave_behind(&mut self, before: Option<Behind>)
         requires { IsRelay self.old before }
         ensures { self.new ≡ self.old }
@@ -325,8 +326,8 @@ fn add_marks(marks: &mut [bool], more: &[bool])
     }
 }
 
-// The rows become those of `ahead` but in marked rows: the table behind does, where nobody else holds that, and all rows
-// are copied into the room otherwise.
+// The rows become those of `ahead` but in marked rows: the table shown before is taken for that, if nobody else holds
+// it, and all rows are copied into the room otherwise.
 fn bring_up(
     own: &mut Rows,
     behind: Option<Behind>,
@@ -350,7 +351,7 @@ fn bring_up(
     }
 }
 
-// The table behind, brought up to `ahead` but in marked rows, where nobody else holds it.
+// The table shown before, brought up to `ahead` but in marked rows, if nobody else holds it.
 fn take_back(behind: Option<Behind>, ahead: &Rows, marks: &[bool]) -> Option<Rows>
     requires { IfSome behind (λ b. DifferWhereEither b.stale marks.now b.table ahead.now) }
     ensures { IfSome result (λ table. DifferWhere marks.now table ahead.now) }
@@ -390,7 +391,7 @@ fn filled(room: Vec<bool>, marks: &[bool]) -> Vec<bool>
     copy
 }
 
-// The room that is left over, where rows as many and as wide fit it, or new room for them.
+// The room that is left over, if rows as many and as wide fit it, or new room for them.
 fn take_room(alloc: Global, spare: &mut Option<Vec<u8>>, rows: &Rows) -> Result<Vec<u8>, AllocError>
     ensures { IfOk result (λ room. room_for rows.now ≤ vec_capacity room) }
 {
@@ -400,7 +401,7 @@ fn take_room(alloc: Global, spare: &mut Option<Vec<u8>>, rows: &Rows) -> Result<
     }
 }
 
-// The table goes into an `Arc`, and another one comes in its place. Where memory is refused the table stays.
+// The table goes into an `Arc`, and another one comes in its place. If memory is refused the table stays.
 fn lend(alloc: Global, own: &mut Rows, other: Rows) -> Result<Arc<Rows>, AllocError>
     ensures out { IfOk result (λ out. arc_value out ≡ own.old) }
     ensures refused { OnErr result (own.new ≡ own.old) }

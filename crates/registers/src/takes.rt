@@ -32,7 +32,7 @@ struct Source<'a> {
     from: usize,
 }
 
-// Does what `take_block` does, by halves of halves, each in a thread of its own where one can be made.
+// Does what `take_block` does, by halves of halves, each in a thread of its own if one can be made.
 #[cycle(halves)]
 fn take_halves<R: Threads + Sync>(rt: &R, depth: u32, source: Source<'_>, cells: &mut [u8])
     requires { CanTakeBlock source.ahead.now source.marks.now source.from cells.old }

@@ -49,12 +49,12 @@ abbrev pub either : Option BatchValue → Option BatchValue → Option BatchValu
 either None other = other
 either (Some b) other = Some b
 
--- where there was none, that of the other one is kept
+-- if there was none, that of the other one is kept
 pub record KeepsEither (early other later : List (List (Option BatchValue))) : Type 0 where
   pub kept : (i k : ℕ) → early_at later i k ≡ either (early_at early i k) (early_at other i k)
   pub table : StaysTable early later
 
--- what either keeps at each place; where both do, that of the first
+-- what either keeps at each place; if both do, that of the first
 unfoldable pub union_of_slots : List (Option BatchValue) → List (Option BatchValue) →
     List (Option BatchValue)
 union_of_slots slots others =

@@ -11,7 +11,7 @@ use Rattle.ball_model.specs.Table.{Table}
 use Rattle.replica.specs.Index.{targets_of}
 use Rattle.replica.specs.Spread.{own_rows, raised_at, raised_by, rows_after, touched_at, AreTouched, CanSpreadRows}
 
--- where the registers are the counter of a changed vertex z, what was heard becomes that and z
+-- if the registers are the counter of a changed vertex z, what was heard becomes that and z
 abbrev pub RowIsHeard : List (List ℕ) → ℕ → List ℕ → List (List ℕ) → List (List ℕ) → Type 0
 RowIsHeard targets z registers old new =
     (j : Job) (p t : ℕ) (heard : ℕ → Bool) → IsJob j → targets ≡ targets_of (part_of j p) →
@@ -19,7 +19,7 @@ RowIsHeard targets z registers old new =
     registers ≡ ball_counter (mixing_of j.plan) j.graph z t →
     old ≡ accumulated_of j p t heard → new ≡ accumulated_of j p t (λ w. heard w || (w == z))
 
--- where the batch is the true one of source q, what was heard becomes that and the vertices of q
+-- if the batch is the true one of source q, what was heard becomes that and the vertices of q
 abbrev pub BatchIsHeard : List (List ℕ) → BatchValue → List (List ℕ) → List (List ℕ) → Type 0
 BatchIsHeard targets batch old new =
     (j : Job) (p t q : ℕ) (heard : ℕ → Bool) → IsJob j → targets ≡ targets_of (part_of j p) →
@@ -27,7 +27,7 @@ BatchIsHeard targets batch old new =
     old ≡ accumulated_of j p t heard →
     new ≡ accumulated_of j p t (λ w. heard w || (w % j.plan.parts == q))
 
--- where the rows are the counters and the marks say which are changed, what was heard becomes that and the own vertices
+-- if the rows are the counters and the marks say which are changed, what was heard becomes that and the own vertices
 abbrev pub OwnIsHeard : List (List ℕ) → PartValue → List (List ℕ) → List Bool → List (List ℕ) →
     List (List ℕ) → Type 0
 OwnIsHeard targets part rows marks old new =
@@ -36,7 +36,7 @@ OwnIsHeard targets part rows marks old new =
     old ≡ accumulated_of j p t heard →
     new ≡ accumulated_of j p t (λ w. heard w || (w % j.plan.parts == p))
 
--- each mark is set where it was set or its accumulator has become another
+-- each mark is set if it was set or its accumulator has become another
 abbrev pub MarksChanges : List Bool → List (List ℕ) → List (List ℕ) → List Bool → Type 0
 MarksChanges marks old new later =
     (i : ℕ) → i < length old → slice_index_or later i false ≡ touched_at marks old new i

@@ -58,11 +58,11 @@ pub record HearingValue : Type 0 where
   pub accumulated : Table
   pub touched : List Bool
 
--- what was heard, where an accumulator is kept of each row
+-- what was heard, if an accumulator is kept of each row
 abbrev pub hearing_kept : HearingValue → HeardState
 hearing_kept a = hearing_of a.heard a.change a.accumulated.rows
 
--- the accumulators: where none are kept beside the rows, they are the rows
+-- the accumulators: if none are kept beside the rows, they are the rows
 unfoldable pub accumulators_of : List (List ℕ) → List (List ℕ) → List (List ℕ)
 accumulators_of rows [] = rows
 accumulators_of rows (own ∷ rest) = own ∷ rest
@@ -95,7 +95,8 @@ pub record IsQuiet (rows : Table) (a : HearingValue) : Type 0 where
   pub accumulated : a.accumulated ≡ rows
   pub kept : KeepsAll rows.rows a
 
--- where what a has accumulated has become the rows, b begins the next superstep, with these marks of what this has changed
+-- once what a has accumulated has become the rows, b begins the next superstep, with these marks of what this has
+-- changed
 pub record BeginsSuperstep (a b : HearingValue) (marks : List Bool) : Type 0 where
   pub quiet : IsQuiet a.accumulated b
   pub touched : marks ≡ a.touched
@@ -117,7 +118,7 @@ pub record SaysSame (rows : List (List ℕ)) (a b : HearingValue) : Type 0 where
       ≡ accumulators_of rows a.accumulated.rows
   pub kept : KeepsAllOrNone rows b
 
--- the accumulators of these rows can be kept again, where they were let go
+-- the accumulators of these rows can be kept again, if they were dropped
 pub record CanRenew (rows : Table) (a : HearingValue) : Type 0 where
   pub width : rows.width ≡ a.accumulated.width
   pub kept : KeepsAllOrNone rows.rows a
@@ -164,7 +165,7 @@ change_by j c =
     list_any (λ q. c.holds c.superstep q && not (changed_count j c.superstep q == 0))
     (range_with_len 0 j.plan.parts)
 
--- what is accumulated for x, where the partitions that are held of the superstep are heard
+-- what is accumulated for x, if the partitions that are held of the superstep are heard
 abbrev pub accumulated_by : Job → Content → ℕ → List ℕ
 accumulated_by j c x =
     accumulated_row (mixing_of j.plan) j.graph x c.superstep

@@ -17,7 +17,7 @@ pub record ShowsAs (v w : State) : Type 0 where
   pub tallies : v.tallies ≡ w.tallies
   pub sums : v.sums ≡ w.sums
 
--- the answer to a merge with a snapshot of o, where memory is there
+-- the answer to a merge with a snapshot of o, if memory is there
 abbrev pub merge_answer : State → State → Result (Unit {0}) MergeError
 merge_answer v o = merge_of v.part.plan v.part.number o.part.plan o.part.number
 
@@ -59,7 +59,7 @@ pub record CanTakeOver (k l : ProgressValue) (shared : List (List (Option BatchV
   pub whole : IsWhole k
   pub index : targets ≡ targets_of k.state.part
 
--- w is v once it has taken over what o knows, where both keep the limits of every replica
+-- w is v once it has taken over what o knows, if both keep the limits of every replica
 pub record TakesIn (v o w : State) : Type 0 where
   pub absorbs : Absorbs v o w
   pub mine : IsState v

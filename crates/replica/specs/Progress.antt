@@ -9,7 +9,7 @@ pub record ProgressValue : Type 0 where
   pub kept : List (List ℕ)
   pub room : ℕ
 
--- of each row an accumulator is kept, or they were let go where the run is over
+-- of each row an accumulator is kept, or they were dropped as the run is over
 abbrev pub HasAccumulators : State → List (List ℕ) → Type 0
 HasAccumulators v kept = (length kept ≡ length v.rows) ⊎ ((kept ≡ []) × (is_over v ≡ true))
 

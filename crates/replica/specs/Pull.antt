@@ -23,7 +23,7 @@ pub record CanRaiseBy (own : Table) (places row : List ℕ) : Type 0 where
   pub inside : All (λ place. place < length own.rows) places
   pub wide : length row ≡ own.width
 
--- it was, and it is told whether this has changed it
+-- it was, and the answer is whether this has changed it
 pub record RaisesBy (own : List (List ℕ)) (places old new : List ℕ) (changed : Bool) : Type 0 where
   pub row : new ≡ raised_over old (rows_at own places)
   pub tells : changed ≡ not (bytes_eq new old)
@@ -69,7 +69,7 @@ pub record CanPullRow (part : PartValue) (own : Table) (marks : List Bool) (i : 
   pub vertex : i < length part.preds
   pub wide : length row ≡ own.width
 
--- it was, and it is told whether this has changed it
+-- it was, and the answer is whether this has changed it
 pub record PullsRow (part : PartValue) (own : List (List ℕ)) (marks : List Bool) (i : ℕ)
     (old new : List ℕ) (changed : Bool) : Type 0 where
   pub row : new ≡ pulled_row part own marks i old

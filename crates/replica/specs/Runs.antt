@@ -56,22 +56,22 @@ Did j p (Merge d) (Merged r) v w = (r ≢ Err refusal.Memory) × Merges j p d r 
 Did j p call answer v w = ⊥
 
 -- these calls, one after the other, each with its answer, made the one of the other
-unfoldable pub Made : Job → ℕ → State → List Call → List CallAnswer → State → Type 0
-Made j p v [] [] w = w ≡ v
-Made j p v (call ∷ calls) (answer ∷ answers) w =
-    (u : State) × Did j p call answer v u × Made j p u calls answers w
-Made j p v calls answers w = ⊥
+unfoldable pub DidAll : Job → ℕ → State → List Call → List CallAnswer → State → Type 0
+DidAll j p v [] [] w = w ≡ v
+DidAll j p v (call ∷ calls) (answer ∷ answers) w =
+    (u : State) × Did j p call answer v u × DidAll j p u calls answers w
+DidAll j p v calls answers w = ⊥
 
 -- from the start, by any list of calls, a replica stands for what the calls make of its content
 abbrev pub RunStands : Type 0
 RunStands = (j : Job) (p : ℕ) (calls : List Call) (answers : List CallAnswer) (v w : State) →
-    HasContent j p start_content v → Made j p v calls answers w →
+    HasContent j p start_content v → DidAll j p v calls answers w →
     HasContent j p (content_after_all j p start_content calls) w
 
 -- and each call answers what the content says
 abbrev pub RunAnswersAsDue : Type 0
 RunAnswersAsDue = (j : Job) (p : ℕ) (calls : List Call) (answers : List CallAnswer) (v w : State) →
-    HasContent j p start_content v → Made j p v calls answers w →
+    HasContent j p start_content v → DidAll j p v calls answers w →
     answers ≡ answers_due j p start_content calls
 
 -- how many of these answers are of a close that went on
@@ -83,12 +83,12 @@ closes_in (answer ∷ answers) = closes_in answers
 -- its superstep is at most the end, and at most so many of the closes went on
 abbrev pub RunIsInTime : Type 0
 RunIsInTime = (j : Job) (p : ℕ) (calls : List Call) (answers : List CallAnswer) (v w : State) →
-    HasContent j p start_content v → Made j p v calls answers w →
+    HasContent j p start_content v → DidAll j p v calls answers w →
     (closes_in answers ≤ w.superstep)
     × (w.superstep ≤ end_of (mixing_of j.plan) j.graph j.plan.limit)
 
--- the verdict that the replica tells is stable exactly where the level is held, the superstep is not 0, and no vertex
--- of the graph is changed
+-- the verdict that the replica tells is stable exactly if the level is held, the superstep is not 0, and no vertex of
+-- the graph is changed
 abbrev pub StableIsQuiet : Type 0
 StableIsQuiet = (j : Job) (p t : ℕ) (v : State) → StandsFor j p t v →
     (found_verdict v ≡ Some verdict.Stable)
@@ -100,7 +100,7 @@ abbrev pub OverIsAtEnd : Type 0
 OverIsAtEnd = (j : Job) (p t : ℕ) (v : State) → StandsFor j p t v → EndsRun (found_verdict v) →
     t ≡ end_of (mixing_of j.plan) j.graph j.plan.limit
 
--- where it is stable, each row is the counter of all counted vertices that can reach its vertex
+-- if it is stable, each row is the counter of all counted vertices that can reach its vertex
 abbrev pub StableReaches : Type 0
 StableReaches = (j : Job) (p t x : ℕ) (v : State) (reaches : ℕ → Bool) → StandsFor j p t v →
     found_verdict v ≡ Some verdict.Stable → x < j.graph.vertices →
@@ -120,7 +120,7 @@ abbrev pub SameCallsAlike : Type 0
 SameCallsAlike =
     (j : Job) (p : ℕ) (c : Content) (calls : List Call) (left right : List CallAnswer)
     (v v2 w w2 : State) → HasContent j p c v → HasContent j p c w →
-    Made j p v calls left v2 → Made j p w calls right w2 →
+    DidAll j p v calls left v2 → DidAll j p w calls right w2 →
     (left ≡ right) × ((e : Content) × HasContent j p e v2 × HasContent j p e w2)
 
 -- whatever its batches say, a replica holds only batches that may be held

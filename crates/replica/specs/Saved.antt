@@ -35,7 +35,7 @@ pub record MayKeep (plan : PlanValue) (p t : ℕ) (b : BatchValue) : Type 0 wher
   pub from : t < b.name.superstep
   pub to : b.name.superstep ≤ t + LEVELS
 
--- where the batch stands among others: by superstep, then by source
+-- where the batch is among others: by superstep, then by source
 abbrev pub order_key : BatchValue → ℕ
 order_key b = b.name.superstep * most_parts + b.name.source
 

@@ -8,7 +8,7 @@ use Rattle.ball_model.specs.State.{State}
 use Rattle.batches.specs.Kept.{rows_at}
 use Rattle.replica.specs.Seen.{IsState}
 
--- vertex i and its registers, where it changed and has an edge into the target
+-- vertex i and its registers, if it changed and has an edge into the target
 abbrev pub sent_row : State → ℕ → ℕ → List (ℕ × List ℕ)
 sent_row v target i =
     if slice_index_or v.marks i false && has_bit (slice_index v.part.feeds i) target
@@ -32,7 +32,7 @@ sent_batch v target n = record {
   rows = sent_rows v target n;
 }
 
--- the registers of vertex i, where it changed
+-- the registers of vertex i, if it changed
 abbrev pub changed_row : State → ℕ → List ℕ
 changed_row v i = if slice_index_or v.marks i false then slice_index_or v.rows i [] else []
 
@@ -73,22 +73,22 @@ pub record IsTold (v : State) (target n : ℕ) (ids places : List ℕ) (changed 
   pub before : changed * 2 ^ v.part.plan.log2m ≡ length (changed_rows v n)
   pub few : changed ≤ n
 
--- what a partition is told of: a state, vertices by their places, and the partition
+-- what a partition is sent is read off these: a state, vertices by their places, and the partition
 pub record TellingValue : Type 0 where
   pub state : State
   pub vertices : List ℕ
   pub target : ℕ
 
--- the target can be told by these vertices
+-- what the target is sent can be read off these vertices
 pub record CanTell (v : State) (vertices : List ℕ) (target : ℕ) : Type 0 where
   pub state : IsState v
   pub changed : AreChangedVertices v vertices
   pub inside : target < v.part.plan.parts
 
--- the place of vertex k of those that changed, or the end behind the last
+-- the place of vertex k of those that changed, or the end after the last
 abbrev pub next_place : TellingValue → ℕ → ℕ
 next_place t k = slice_index_or t.vertices k (length t.state.part.preds)
 
--- what is told of those before it
+-- what is sent of those before it
 abbrev pub IsToldBefore : TellingValue → ℕ → List ℕ → List ℕ → ℕ → Type 0
 IsToldBefore t k ids places changed = IsTold t.state t.target (next_place t k) ids places changed

@@ -6,11 +6,11 @@ use Rattle.ball_model.specs.Counter.{max_each}
 use Rattle.ball_model.specs.Job.{PartValue}
 use Rattle.ball_model.specs.Table.{Table}
 
--- the number stands in the list
+-- the number is in the list
 abbrev pub stands_in : List ℕ → ℕ → Bool
 stands_in xs x = list_any (λ y. y == x) xs
 
--- row i, raised by other registers where i is one of the places
+-- row i, raised by other registers if i is one of the places
 unfoldable pub row_after : List ℕ → List ℕ → List (List ℕ) → ℕ → List ℕ
 row_after places registers rows i =
     if stands_in places i then max_each (slice_index_or rows i []) registers
@@ -44,7 +44,7 @@ marked_rows parts p rows marks n =
 abbrev pub own_rows : PartValue → List (List ℕ) → List Bool → List (ℕ × List ℕ)
 own_rows part rows marks = marked_rows part.plan.parts part.number rows marks (length marks)
 
--- row i is marked where it was marked or has become another
+-- row i is marked if it was marked or has become another
 abbrev pub touched_at : List Bool → List (List ℕ) → List (List ℕ) → ℕ → Bool
 touched_at marks old new i =
     slice_index_or marks i false

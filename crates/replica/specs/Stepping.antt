@@ -9,7 +9,7 @@ use Rattle.figures.specs.Values.{weight_of}
 use Rattle.replica.specs.Kept.{AreCounters}
 use Rattle.replica.specs.Level.{next_tally}
 
--- the figures and weights of some rows, from place `from` on, with a mark for each: where it is not marked the row stays,
+-- the figures and weights of some rows, from place `from` on, with a mark for each: if it is not marked the row stays,
 -- and so does its estimate
 pub record CanStepBlock (m : Measure) (t : ℕ) (old new : Table) (from : ℕ) (marks : List Bool)
     (own : List ℕ) (tallies : List TallyValue) : Type 0 where

@@ -8,7 +8,7 @@ unfoldable pub shown_tallies : List TallyValue → Option (List TallyValue) → 
 shown_tallies own None = own
 shown_tallies own (Some out) = out
 
--- as many marks, and set where either is
+-- as many marks, each set if one of the two is
 pub record AreEither (ms ns both : List Bool) : Type 0 where
   pub long : length both ≡ length ms
   pub set : (i : ℕ) → slice_index_or both i false ≡
@@ -26,16 +26,17 @@ pub record MarkedTallies : Type 0 where
   pub tallies : List TallyValue
   pub stale : List Bool
 
--- what is shown differs from the tallies behind it at stale places alone
+-- what is shown differs from the tallies shown before at stale places alone
 abbrev pub AreRelayed : List TallyValue → Option MarkedTallies → Type 0
 AreRelayed shown behind = IfSome behind (λ b. DifferAt b.stale b.tallies shown)
 
--- the same, with so many marks as tallies
+-- what is shown differs so, and there are so many marks as tallies
 pub record CanBeRelayed (shown : List TallyValue) (behind : Option MarkedTallies) (marks : ℕ) : Type 0 where
   pub relayed : AreRelayed shown behind
   pub each : marks ≡ length shown
 
--- what is shown is in the own table, and the tallies behind are marked for all that differ from it where it is marked
+-- what is shown is in the own table, and the tallies shown before are marked for all that differ from it where it is
+-- marked
 pub record AreOwnAgain (shown : List TallyValue) (marks : List Bool) (own : List TallyValue)
     (behind : Option MarkedTallies) : Type 0 where
   pub own_is : own ≡ shown

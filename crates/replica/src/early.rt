@@ -100,7 +100,7 @@ impl Early {
         shift_slots(&mut self.slots, count * self.parts);
     }
 
-    /// Where there is no batch, that of the other one comes.
+    /// Each source without a batch gets that of the other one.
     pub fn fill(&mut self, other: &mut Early)
         requires { StaysTable self.old other.old }
         ensures { KeepsEither self.old other.old self.new }
@@ -108,7 +108,7 @@ impl Early {
         fill_slots(&mut self.slots, &mut other.slots);
     }
 
-    /// The same batches, shared.
+    /// These batches, shared.
     pub fn share(&self, alloc: Global) -> Result<Early, AllocError>
         ensures { IfOk result (λ e. e ≡ self.now) }
     {
@@ -150,7 +150,7 @@ fn shift_slots(slots: &mut [Option<Arc<Batch>>], count: usize)
     slots.rotate_left(count);
 }
 
-// Lets each batch go.
+// Drops each batch.
 fn clear(slots: &mut [Option<Arc<Batch>>])
     ensures { map (option_map arc_value) slots.new ≡ replicate (length slots.old) None }
 {
@@ -181,7 +181,7 @@ fn fill_one(slot: &mut Option<Arc<Batch>>, other: &mut Option<Arc<Batch>>)
     }
 }
 
-// The same batches, shared.
+// The batches of these slots, shared.
 fn share_slots(
     alloc: Global,
     slots: &[Option<Arc<Batch>>],
@@ -196,7 +196,7 @@ fn share_slots(
     Ok(shared)
 }
 
-// The same batch, shared, where there is one.
+// The batch of a slot, shared, if there is one.
 fn share_one(slot: &Option<Arc<Batch>>) -> Result<Option<Arc<Batch>>, AllocError>
     ensures { IfOk result (λ shared. option_map arc_value shared ≡ option_map arc_value slot.now) }
 {

@@ -31,7 +31,7 @@ pub struct Hearing {
     heard: SourceMask,
     // whether one of them tells of a changed vertex
     change: bool,
-    // the rows, raised by those of the sources that are heard; none where none is kept, since each equals its row
+    // the rows, raised by those of the sources that are heard; none if none is kept, since each equals its row
     accumulated: Rows,
     // which of them differ from their rows
     touched: Vec<bool>,
@@ -100,7 +100,7 @@ impl Hearing {
         self.change
     }
 
-    /// The accumulators: the rows themselves where no others are kept.
+    /// The accumulators: the rows themselves if no others are kept.
     pub fn accumulators<'a>(&'a self, rows: &'a Rows) -> &'a Rows
         requires { rows.now.width ≡ self.now.accumulated.width }
         ensures rows { result.now.rows ≡ accumulators_of rows.now.rows self.now.accumulated.rows }
@@ -177,7 +177,7 @@ impl Hearing {
         spread_own(&own, &mut self.accumulated, &mut self.touched);
     }
 
-    /// The own rows that changed are heard as [`Hearing::hear_own`] hears them, in several threads where that takes less
+    /// The own rows that changed are heard as [`Hearing::hear_own`] hears them, in several threads if that takes less
     /// time.
     pub fn hear_own_by<R: Threads + Sync>(
         &mut self,
@@ -200,7 +200,7 @@ impl Hearing {
         hear_rows(rt, threads, &own, &mut self.accumulated, &mut self.touched);
     }
 
-    /// Begins the next superstep, where what is accumulated has become the rows: those are marked that this has changed,
+    /// Begins the next superstep, once what is accumulated has become the rows: those are marked that this has changed,
     /// and nothing is heard yet.
     pub fn begin(&mut self, marks: &mut [bool])
         requires { length marks.old ≡ length self.old.accumulated.rows }
@@ -240,7 +240,7 @@ impl Hearing {
         self.change |= other.change;
     }
 
-    /// The same in buffers of its own, with no accumulators where none of them differs from its row.
+    /// What was heard, in buffers of its own, with no accumulators if none of them differs from its row.
     pub fn copied(&self, alloc: Global) -> Result<Hearing, AllocError>
         ensures { IfOk result (λ copy. (rows : List (List ℕ)) →
             KeepsAllOrNone rows self.now → SaysSame rows self.now copy) }
@@ -264,7 +264,7 @@ impl Hearing {
         })
     }
 
-    /// Lets the accumulators go, where no row differs from what is accumulated for it.
+    /// Drops the accumulators, if no row differs from what is accumulated for it.
     pub fn let_go(&mut self)
         ensures { (rows : List (List ℕ)) →
             KeepsAllOrNone rows self.old → SaysSame rows self.old self.new }
@@ -276,7 +276,7 @@ impl Hearing {
         }
     }
 
-    /// Keeps the accumulators again that were let go. An error changes nothing.
+    /// Keeps the accumulators again that were dropped. An error changes nothing.
     pub fn renew(&mut self, alloc: Global, rows: &Rows) -> Result<(), AllocError>
         requires { CanRenew rows.now self.old }
         ensures renewed { OnOk result (Renews rows.now.rows self.old self.new) }
@@ -306,7 +306,7 @@ pub fn differences(alloc: Global, rows: &Rows, accumulated: &Rows) -> Result<Vec
     Ok(touched)
 }
 
-// The same rows in a buffer of their own.
+// A copy of the rows, in a buffer of its own.
 pub(crate) fn copy_rows(alloc: Global, rows: &Rows) -> Result<Rows, AllocError>
     ensures { IfOk result (λ copy. copy ≡ rows.now) }
 {

@@ -18,8 +18,8 @@ pub struct Closing<'a> {
     pub t: u32,
 }
 
-/// How figures come to superstep `t`: the rows ahead, from which the rows differ where they are marked, how estimates are
-/// made, and in how many threads it is done, as a power of 2, where it is done in several.
+/// How figures come to superstep `t`: the rows ahead, from which the rows differ where they are marked, how estimates
+/// are made, and in how many threads it is done, as a power of 2, if it is done in several.
 #[derive(Clone, Copy, Drop)]
 pub struct Step<'a> {
     pub estimator: &'a Estimator,
@@ -67,8 +67,8 @@ pub fn step_rows(
     gain
 }
 
-// The same, where the rows before were handed out, or else are those that are shown. Each row is taken over right after
-// its figures: a second walk would have to fetch both again.
+// Steps the figures of the marked rows: from the rows before, if these were handed out, and else from those that are
+// shown. Each row is taken over right after its figures: a second walk would have to fetch both again.
 #[inline(never)]
 fn step_marked(
     step: &Step<'_>,

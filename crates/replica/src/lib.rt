@@ -1,14 +1,13 @@
 //! One partition's state, superstep by superstep (Pregel 2010, HyperBall 2013).
 //!
 //! A [`Replica`] has the registers of each vertex of its partition at a superstep t, which of them changed there, the
-//! figures so far, and the batches that it holds, of superstep t and the [`LEVELS`] after it. It holds its level where it
-//! has the batch of superstep t of every other partition, those without rows too. Then [`Shown::verdict`] says whether the
-//! run goes on, and [`Replica::close`] makes the rows of t + 1: each is raised by those of its predecessors that
-//! changed at t, and by no other, since an unchanged row has nothing new to say; [`Replica::close_by`] does so in several
-//! threads. [`Replica::out`] is what the
-//! partition tells another one of t ([`Replica::out_of`] tells the same over a table of the rows that changed, which
-//! all batches of t share), and [`Replica::take`] holds what it is told. What a replica and a snapshot of it
-//! tell of what they have are the calls of one trait, [`Shown`].
+//! figures so far, and the batches that it holds, of superstep t and the [`LEVELS`] after it. It holds its level if it
+//! has the batch of superstep t of every other partition, those without rows too. Then [`Shown::verdict`] says whether
+//! the run goes on, and [`Replica::close`] makes the rows of t + 1: each is raised by those of its predecessors that
+//! changed at t, and by no other, since an unchanged row has nothing new to say; [`Replica::close_by`] does so in
+//! several threads. [`Replica::out`] is what the partition tells another one of t ([`Replica::out_of`] tells the same
+//! over a table of the rows that changed, which all batches of t share), and [`Replica::take`] holds what it is sent.
+//! What a replica and a snapshot of it tell of what they have are the calls of one trait, [`Shown`].
 //!
 //! What a replica stands for is a definition of `ball_model`: all that it has is what the definitions say of its
 //! superstep. Whatever a batch says, true or not, registers stay at most 33 and every figure fits its type.
@@ -23,12 +22,12 @@
 //!
 //! A replica that was lost, restarted or late takes over what another one of its partition knows: it merges a
 //! [`Snapshot`] of it ([`Replica::merge`]), or the two are joined. Then it is at the greater superstep of the two, with
-//! the rows and figures of that one, and holds each batch of its window that either held. What is taken over is true
-//! where both were.
+//! the rows and figures of that one, and holds each batch of its window that either held. What is taken over is true if
+//! both were.
 //!
 //! ```text
 //! let mut replica = Replica::new(alloc, part)?;      // superstep 0
-//! replica.out(alloc, 1)?                             // what partition 1 is told of superstep 0
+//! replica.out(alloc, 1)?                             // what partition 1 is sent of superstep 0
 //! replica.close()                                    // Err: CloseError::Waiting { source: 1 }
 //! replica.take(batch)                                // Ok: Taken::New, the batch of partition 1
 //! replica.close()                                    // Ok(1), the superstep that it is at now
@@ -54,7 +53,7 @@ mod stepping;
 mod tables;
 mod tallies;
 mod targets;
-mod told;
+mod telling;
 mod waiting;
 
 pub use early::LEVELS;

@@ -20,8 +20,8 @@ use std::sync::Arc;
 
 /// What a replica or a snapshot has at a superstep. What it tells are the calls of [`Shown`].
 ///
-/// Where a replica has it there is room to go on: for a sum of each superstep up to the limit, and for an accumulator
-/// of each row until the run is over. A snapshot has no more than it tells.
+/// If a replica has it there is room to go on: for a sum of each superstep up to the limit, and for an accumulator of
+/// each row until the run is over. A snapshot has no more than it tells.
 pub struct Progress {
     pub(crate) part: Arc<Part>,
     pub(crate) superstep: u32,
@@ -42,7 +42,7 @@ impl Model for Progress {
     ghost invariant = { IsProgress };
 }
 
-// Written out, and so one call wherever one is let go: the checker reads a derived one again at each place.
+// Written out, and so one call wherever one is dropped: the checker reads a derived one again at each place.
 impl Drop for Progress {
     fn drop(self) {
         let Progress {

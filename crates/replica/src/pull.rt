@@ -12,17 +12,18 @@ ghost use Rattle.replica.specs.Pull.{CanPullBlock, CanPullOwn, CanPullRow, Pulls
 ghost use Rattle.replica.specs.Pull.{CanHearRows, CanRaiseBy, PullsRow, RaisesBy};
 ghost use Rattle.replica.specs.Pull.{is_told, raised_over, rows_at};
 
+use crate::level::count_set;
 use crate::spread::{Own, spread_own};
 use edgelist::Part;
-use registers::{LINE, Rows, glance_over, max_into, next_marked};
+use registers::{LINE, Rows, glance_over, max_into};
 use std::thread::{Threads, available_parallelism, join_mut};
 
 // Below so many bytes of registers that changed, threads cost more than they save.
-const FEW: usize = 1 << 24;
+const FEW: usize = 1 << 23;
 
 // From so many bytes of rows on threads have blocks to choose from. What is beside the registers of a row counts as some
 // bytes more.
-const MANY: usize = 1 << 25;
+const MANY: usize = 1 << 24;
 
 const BESIDE: usize = 64;
 
@@ -32,7 +33,7 @@ const DECODE: usize = 45;
 
 const RAISE: usize = 20;
 
-// Into how many blocks many rows are cut for each processor, as a power of 2, where all are to work.
+// Into how many blocks many rows are cut for each processor, as a power of 2, if all are to work.
 const BLOCKS: u32 = 2;
 
 // How many rows are glanced at before the first of them raises another one.
@@ -63,7 +64,7 @@ fn is_told(parts: u32, own: u32, marks: &[bool], z: u32) -> bool
     number == own && place < marks.len() && marks[place]
 }
 
-// Whether a row is seen at a glance to be raised by one of those at these places, where rows are wider than a line of the
+// Whether a row is seen at a glance to be raised by one of those at these places, if rows are wider than a line of the
 // cache. So those are fetched side by side.
 fn is_seen_raised(rows: &Rows, places: &[u32], row: &[u8]) -> bool
     requires { CanRaiseBy rows.now places.now row.now }
@@ -143,7 +144,8 @@ fn pull_piece(pull: &Pull<'_>, from: usize, k: usize, cells: &mut [u8]) -> bool
         cells.old cells.new result }
 {
     let (part, rows, marks) = (pull.part, pull.rows, pull.marks);
-    let _size = part.size();
+    // the limits of a part come with its size
+    let _limits = part.size();
     let width = rows.width();
     let start = k * width;
     let i = (from + k) as u32;
@@ -168,11 +170,12 @@ fn middle(part: &Part, from: usize, count: usize) -> usize
     requires { from + count ≤ length part.now.preds }
     ensures { result ≤ count }
 {
-    let _size = part.size();
+    // the limits of a part come with its size
+    let _limits = part.size();
     part.middle(from as u32, (from + count) as u32) as usize - from
 }
 
-// Does what `pull_block` does, by halves of halves, each in a thread of its own where one can be made.
+// Does what `pull_block` does, by halves of halves, each in a thread of its own if one can be made.
 #[cycle(halves)]
 fn pull_halves<R: Threads + Sync>(
     rt: &R,
@@ -251,6 +254,7 @@ pub fn pull_own<R: Threads + Sync>(
     ensures { SpreadsOwn (targets_of own.now.part.now) own.now.part.now own.now.rows.now.rows
         own.now.marks.now accumulated.old accumulated.new touched.old touched.new }
 {
+    // the limits of a part come with its number
     let _limits = own.part.partition();
     let pull = Pull {
         part: own.part,
@@ -261,7 +265,7 @@ pub fn pull_own<R: Threads + Sync>(
     pull_halves(rt, &pull, 0, accumulated.cells_mut(), touched);
 }
 
-// How often rows are halved for so many threads: there are no more blocks than threads. Where all processors are to work
+// How often rows are halved for so many threads: there are no more blocks than threads. If all processors are to work
 // on many rows there are some more, since blocks take unequal times.
 fn halvings<R: Threads>(rt: &R, threads: usize, width: usize, marks: &[bool]) -> u32
     requires { width < 2 ^ 16 }
@@ -274,15 +278,9 @@ fn halvings<R: Threads>(rt: &R, threads: usize, width: usize, marks: &[bool]) ->
     }
 }
 
-// Whether at least so many rows are marked. It stops where it has found them.
+// Whether at least so many rows are marked.
 fn are_marked(marks: &[bool], count: usize) -> bool {
-    let mut left = count;
-    let mut i = next_marked(marks, 0);
-    while 0 < left && i < marks.len() {
-        left -= 1;
-        i = next_marked(marks, i + 1);
-    }
-    left == 0
+    count <= count_set(marks)
 }
 
 // How many rows of so many registers are many.
@@ -310,7 +308,7 @@ fn are_many(threads: usize, parts: u16, width: usize, marks: &[bool]) -> bool
     0 < gain && are_marked(marks, least_rows(width).max(marks.len() / gain))
 }
 
-/// How often rows of so many registers are halved for so many threads; 0 where so few are marked that threads cost more
+/// How often rows of so many registers are halved for so many threads; 0 if so few are marked that threads cost more
 /// than they save.
 pub fn halvings_for<R: Threads>(rt: &R, threads: usize, width: usize, marks: &[bool]) -> u32
     requires { width < 2 ^ 16 }
@@ -322,7 +320,7 @@ pub fn halvings_for<R: Threads>(rt: &R, threads: usize, width: usize, marks: &[b
     }
 }
 
-/// The own rows that are marked are heard: by the predecessors of each vertex where there are several threads and many
+/// The own rows that are marked are heard: by the predecessors of each vertex if there are several threads and many
 /// rows are marked, and else by the targets of the marked ones.
 pub fn hear_rows<R: Threads + Sync>(
     rt: &R,

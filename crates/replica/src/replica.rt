@@ -40,7 +40,7 @@ impl Shown for Snapshot {
 ///
 /// Its memory is taken when it is made: two rows of 2^log2m bytes, a tally and the weight that its estimate is made of
 /// for each vertex, a slot for each source and each of three supersteps, and a sum for each superstep up to the limit;
-/// and that of [`Targets`], where the index was not made before. Where the run is over, [`Replica::give_back`] gives back
+/// and that of [`Targets`], if the index was not made before. If the run is over, [`Replica::give_back`] gives back
 /// that of the index, and one of the two rows if they are equal.
 #[derive(Drop)]
 pub struct Replica {

@@ -197,7 +197,7 @@ pub trait Shown {
         name.target == s.part.partition() && s.holds_from(name.superstep, name.source)
     }
 
-    /// The least source that is missing from the level; the level is held where there is none.
+    /// The least source that is missing from the level; the level is held if there is none.
     final fn missing(&self) -> Option<u16>
         ensures { result ≡ missing_in (state self.now) }
     {
@@ -266,7 +266,7 @@ pub trait Shown {
         s.early.nth(i as usize)
     }
 
-    /// The verdict, where the level is held.
+    /// The verdict, if the level is held.
     final fn verdict(&self) -> Option<Verdict>
         ensures value { result ≡ found_verdict (state self.now) }
         ensures none { (result ≡ None) ↔ (IsSome (missing_in (state self.now))) }

@@ -25,8 +25,8 @@ pub struct Own<'a> {
 /// Spreads the row of vertex `z`: the accumulator of each own vertex that `z` has an edge to becomes the maximum of
 /// itself and `registers`, register by register, and each accumulator that this changes is marked.
 ///
-/// Where the registers are the counter of `z`, which is changed at t, the accumulators of what was heard become those
-/// of what was heard and `z`. It takes no memory, and time in proportion to the edges of `z` into the part. Rows of a
+/// If the registers are the counter of `z`, which is changed at t, the accumulators of what was heard become those of
+/// what was heard and `z`. It takes no memory, and time in proportion to the edges of `z` into the part. Rows of a
 /// block that are wider than a line of the cache are glanced at first, so that they are fetched side by side.
 pub fn spread_row(
     targets: &Targets,
@@ -47,8 +47,8 @@ pub fn spread_row(
 
 /// Spreads the rows of a batch, one after the other.
 ///
-/// Where it is the true batch of source q at t, the accumulators of what was heard become those of what was heard and
-/// the vertices of q. It takes no memory, and time in proportion to the edges of its rows' vertices into the part.
+/// If it is the true batch of source q at t, the accumulators of what was heard become those of what was heard and the
+/// vertices of q. It takes no memory, and time in proportion to the edges of its rows' vertices into the part.
 pub fn spread_batch(targets: &Targets, batch: &Batch, accumulated: &mut Rows, touched: &mut [bool])
     requires { CanSpreadRows targets.now (2 ^ batch.now.plan.log2m) accumulated.old touched.old }
     ensures { SpreadsBatch targets.now batch.now accumulated.old accumulated.new
@@ -67,16 +67,16 @@ pub fn spread_batch(targets: &Targets, batch: &Batch, accumulated: &mut Rows, to
 
 /// Spreads the own rows that are marked, one after the other.
 ///
-/// Where the rows are the counters at t and the marks say which of them are changed there, the accumulators of what
-/// was heard become those of what was heard and the own vertices. It takes no memory, and time in proportion to the
-/// edges of the marked ones into the part; marks are passed over 64 at once where none is set.
+/// If the rows are the counters at t and the marks say which of them are changed there, the accumulators of what was
+/// heard become those of what was heard and the own vertices. It takes no memory, and time in proportion to the edges
+/// of the marked ones into the part; marks are passed over 64 at once if none is set.
 pub fn spread_own(own: &Own<'_>, accumulated: &mut Rows, touched: &mut [bool])
     requires { CanSpreadOwn own.now.targets.now own.now.part.now own.now.rows.now
         own.now.marks.now accumulated.old touched.old }
     ensures { SpreadsOwn own.now.targets.now own.now.part.now own.now.rows.now.rows
         own.now.marks.now accumulated.old accumulated.new touched.old touched.new }
 {
-    // Where rows lead to fewer than two accumulators each, there is little to fetch side by side.
+    // If rows lead to fewer than two accumulators each, there is little to fetch side by side.
     let few = own.part.edges() / 2 < own.part.size() as usize;
     if few || own.rows.width() <= LINE {
         spread_in_turn(own, accumulated, touched);
@@ -85,7 +85,7 @@ pub fn spread_own(own: &Own<'_>, accumulated: &mut Rows, touched: &mut [bool])
     }
 }
 
-// The same, one row after the other.
+// Spreads the own rows that are marked, one after the other.
 #[inline(never)]
 fn spread_in_turn(own: &Own<'_>, accumulated: &mut Rows, touched: &mut [bool])
     requires { CanSpreadOwn own.now.targets.now own.now.part.now own.now.rows.now
@@ -107,8 +107,8 @@ fn spread_in_turn(own: &Own<'_>, accumulated: &mut Rows, touched: &mut [bool])
     }
 }
 
-// Marks the rows at these places that are seen at a glance to rise, where rows are wider than a line of the cache.
-// So each row that is marked here is one that spreading marks.
+// Marks the rows at these places that are seen at a glance to rise, if rows are wider than a line of the cache. So each
+// row that is marked here is one that spreading marks.
 fn mark_seen(places: &[u32], registers: &[u8], accumulated: &Rows, touched: &mut [bool])
     requires { CanRaise places.now registers.now accumulated.now touched.old }
     ensures { MarksBefore places.now registers.now accumulated.now.rows touched.old touched.new }

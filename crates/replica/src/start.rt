@@ -23,7 +23,7 @@ pub fn estimator_of(alloc: Global, plan: &Plan) -> Result<Estimator, AllocError>
     Ok(Estimator::raw(alloc, log2m))
 }
 
-// The row of vertex i, which is empty, becomes that of the vertex alone, where it is counted.
+// The row of vertex i, which is empty, becomes that of the vertex alone, if it is counted.
 fn start_row(part: &Part, i: u32, rows: &mut Rows)
     requires { IsEmptyAt part.now i rows.old }
     ensures { rows.new ≡

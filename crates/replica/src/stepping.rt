@@ -43,7 +43,7 @@ fn step_block(
 {
     let (step, old, from, marks) = (blocks.step, blocks.old, span.from, span.marks);
     let ahead = step.ahead;
-    // the limits of a table are told with its length
+    // the limits of a table come with its length
     let _limits = ahead.len();
     let mut gain = 0;
     let mut k = next_marked(marks, 0);
@@ -56,7 +56,7 @@ fn step_block(
     gain
 }
 
-// Does what `step_block` does, by halves of halves, each in a thread of its own where one can be made.
+// Does what `step_block` does, by halves of halves, each in a thread of its own if one can be made.
 #[cycle(halves)]
 fn step_halves<R: Threads + Sync>(
     rt: &R,
@@ -100,7 +100,7 @@ fn step_both<R: Threads + Sync>(
         half.now.step.now.ahead.now span.now.from (map value_of tallies.old)
         (map value_of tallies.new) weights.new result }
 {
-    // the limits of a table are told with its length
+    // the limits of a table come with its length
     let _limits = half.step.ahead.len();
     let mid = span.marks.len() / 2;
     let (first, last) = span.marks.split_at(mid);

@@ -25,7 +25,7 @@ pub struct Tables {
     rows: Relay,
     marks: Vec<bool>,
     tallies: Tallies,
-    // where a replica has them there is room for a sum of each superstep up to the limit
+    // if a replica has them there is room for a sum of each superstep up to the limit
     sums: Vec<u128>,
 }
 
@@ -47,7 +47,7 @@ impl Tables {
         requires { estimator.now ≡ measure_of part.now.plan }
         ensures { IfOk result (AreFirst part.now) }
     {
-        // the limits of a part are told with its number
+        // the limits of a part come with its number
         prove!(part.partition() < part.plan().parts());
         let marks = start::start_marks(alloc, part)?;
         let rows = start::start_rows(alloc, part)?;
@@ -139,7 +139,7 @@ impl Tables {
         hearing.begin(&mut self.marks);
     }
 
-    /// Goes on as [`Tables::next`] does, in up to so many threads where it is worth it.
+    /// Goes on as [`Tables::next`] does, in up to so many threads if it is worth it.
     pub fn next_by<R: Threads + Sync>(
         &mut self,
         rt: &R,
@@ -168,7 +168,7 @@ impl Tables {
         hearing.begin(&mut self.marks);
     }
 
-    /// The same: rows and figures are shared, the rest is copied, with no room for later sums.
+    /// A copy of the tables: rows and figures are shared, the rest is copied, with no room for later sums.
     pub fn copied(&mut self, alloc: Global) -> Result<Tables, AllocError>
         ensures same { self.new ≡ self.old }
         ensures copy { IfOk result (λ t. t ≡ record self.old { room = t.room }) }

@@ -21,17 +21,17 @@ use std::thread::Threads;
 /// Tallies that can be handed out, as a [`registers::Relay`] hands out rows: what they become afterwards does not
 /// change what was handed out.
 ///
-/// Where nothing is handed out they are stepped in place. Else they go on in a second table: in the one that was shown
+/// If nothing is handed out they are stepped in place. Else they go on in a second table: in the one that was shown
 /// before, once nobody else holds it, which is brought up at those places alone that changed since, and otherwise in
 /// room that was taken when the table was handed out and was not touched until then. So [`Tallies::copied`] takes
-/// memory, and no other call does.
+/// memory for tallies, [`Tallies::step_by`] that of its threads, and no other call takes any.
 #[derive(Drop)]
 pub struct Tallies {
-    // what is shown, where nothing is handed out
+    // what is shown, if nothing is handed out
     own: Vec<Tally>,
-    // what is shown, where it was handed out
+    // what is shown, if it was handed out
     out: Option<Shared>,
-    // what was shown before, where that was handed out
+    // what was shown before, if that was handed out
     behind: Option<Behind>,
     // room that is left over
     spare: Option<Vec<Tally>>,
@@ -119,9 +119,9 @@ impl Tallies {
         }
     }
 
-    /// They become the figures of the rows ahead, and the rows become these, as [`level::step_rows`] steps them. It takes no
-    /// memory. Where a table was handed out, those that changed since the one before it are copied too,
-    /// and all of them where somebody still holds that one.
+    /// They become the figures of the rows ahead, and the rows become these, as [`level::step_rows`] steps them. It
+    /// takes no memory. If a table was handed out, those that changed since the one before it are copied too, and all
+    /// of them if somebody still holds that one.
     pub fn step(&mut self, step: &Step<'_>, rows: &mut Relay, weights: &mut [u64]) -> u128
         requires { CanBeStepped step.now.estimator.now step.now.t rows.old step.now.ahead.now
             step.now.marks.now weights.old self.old }
@@ -199,8 +199,8 @@ impl Tallies {
         }
     }
 
-    /// The same tallies, which are shared with these. The error is that memory was refused. Either way these are as
-    /// they were.
+    /// Other `Tallies` of the same figures, which are shared with these. The error is that memory was refused. Either
+    /// way these are as they were.
     ///
     /// It takes room for as many and a mark for each, which is not touched unless the other ones go on.
     pub fn copied(&mut self, alloc: Global) -> Result<Tallies, AllocError>
@@ -223,7 +223,7 @@ impl Tallies {
     }
 }
 
-// What is shown is in the own table, to be stepped where it is marked; what was handed out is behind.
+// What is shown is in the own table, to be stepped where it is marked; what was handed out is what was shown before.
 fn go_on(
     own: &mut Vec<Tally>,
     out: Option<Shared>,
@@ -263,8 +263,8 @@ fn mark_stale(behind: &mut Option<Behind>, marks: &[bool])
     }
 }
 
-// The own table becomes what is shown: the table behind does, where nobody else holds it, and otherwise a copy in the
-// room.
+// The own table becomes what is shown: the table shown before is taken for that, if nobody else holds it, and otherwise
+// a copy in the room.
 fn bring_up(
     own: &mut Vec<Tally>,
     behind: &mut Option<Behind>,
@@ -310,7 +310,7 @@ fn filled<T: Copy>(room: Vec<T>, items: &[T]) -> Vec<T>
     copy
 }
 
-// The room that is left over, where so many tallies fit it, or new room for them.
+// The room that is left over, if so many tallies fit it, or new room for them.
 fn take_room(
     alloc: Global,
     spare: &mut Option<Vec<Tally>>,

@@ -102,7 +102,7 @@ fn add_edges(
     }
 }
 
-/// Spreads the own rows that are marked, as [`crate::spread::spread_own`] does, where rows are wider than a line of the
+/// Spreads the own rows that are marked, as [`crate::spread::spread_own`] does, if rows are wider than a line of the
 /// cache: those that edges of several rows lead to are fetched side by side.
 #[inline(never)]
 pub fn spread_waiting(own: &Own<'_>, accumulated: &mut Rows, touched: &mut [bool])

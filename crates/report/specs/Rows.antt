@@ -8,7 +8,7 @@ use Rattle.csv.specs.declared.writer.Writer.{Writer}
 abbrev pub text_in : Writer (Vec ℕ Global) → List ℕ
 text_in w = (writer_under w).items ++ writer_pending w
 
--- the writer writes rows of any length in the form of a report, and stands at the start of a row
+-- the writer writes rows of any length in the form of a report, and is at the start of a row
 pub record AtRow (w : Writer (Vec ℕ Global)) : Type 0 where
   pub setup : writer_setup w ≡ with_flexible default_writer true
   pub fields : fields_written w ≡ 0

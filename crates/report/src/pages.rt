@@ -42,7 +42,7 @@ impl Pages {
         }
     }
 
-    /// Writes all pages and answers true, or answers false where a call failed; nothing is tried again.
+    /// Writes all pages and answers true, or answers false if a call failed; nothing is tried again.
     pub fn write_to<W: CountedWrite>(&self, writer: &mut W) -> bool
         ensures done { result ≡ true →
             Appends (W.contents writer.old) (W.contents writer.new) self.now }

@@ -46,7 +46,7 @@ fn totals(alloc: Global, replicas: &[Replica], end: u32) -> Result<Vec<u128>, Al
 }
 
 // The figures of a replica's vertices at some places, as far as there are such, by at most so many threads, or by all
-// processors where 0 are asked for.
+// processors if 0 are asked for.
 fn own_figures<T: AllocGlobal + Threads + Sync>(
     rt: &T,
     replica: &Replica,

@@ -215,7 +215,7 @@ fn are_of(graph: &Graph, replicas: &[Replica]) -> bool
     true
 }
 
-// The answer for replicas that are ready, by so many threads at most; by all processors where it is 0.
+// The answer for replicas that are ready, by so many threads at most; by all processors if it is 0.
 fn written<H: AllocGlobal + Threads + Sync, W: CountedWrite>(
     rt: &H,
     writer: &mut W,
@@ -394,7 +394,7 @@ impl Write for Full {
     }
 }
 
-// The answer where such a writer is given.
+// The answer if such a writer is given.
 fn written_in<H: AllocGlobal + Threads + Sync>(
     rt: &H,
     graph: &Graph,
@@ -414,7 +414,7 @@ fn two_edges_in<H: AllocGlobal + RandomSource + Threads + Sync>(
     written_in(rt, &graph, calls)
 }
 
-// The report goes out in two pieces, and a failure of either is told.
+// The report goes out in two pieces, and a failure of either is answered.
 static CALLS: [(u32, Result<(), ReportError>); 3] = [
     (0, Err(ReportError::Write)),
     (1, Err(ReportError::Write)),

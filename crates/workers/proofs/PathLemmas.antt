@@ -19,7 +19,7 @@ use Rattle.ball_model.specs.History.{HistoryEvent, Post, Fetch, Keep, Recall, Dr
 use Rattle.ball_model.specs.Caller.{Caller, Extends, Called, CalledNothing}
 use Rattle.ball_model.proofs.JoinLemmas.{content_back}
 use Rattle.replica.specs.Merged.{Absorbs}
-use Rattle.replica.specs.Runs.{HasContent, Takes, Closes, Did, Made}
+use Rattle.replica.specs.Runs.{HasContent, Takes, Closes, Did, DidAll}
 use Rattle.replica.specs.Seen.{IsState}
 use Rattle.replica.specs.Sent.{batch_name}
 use Rattle.replica.proofs.MergedLemmas.Holding.{joined_holding}
@@ -210,7 +210,7 @@ start_held j p v stands names =
 
 -- after a call
 held_next : (j : Job) (p : ℕ) (call : Call) (answer : CallAnswer) (v w : State) → StandsFor j p v.superstep v → IsState v → Did j p call answer v w → holding_in w ≡ held_after j (holding_in v) call
-unfolding Made answers_due content_after_all
+unfolding DidAll answers_due content_after_all
 held_next j p call answer v w stands state did =
     let c : Content = content_of v in
     let h : Holding = holding_in v in

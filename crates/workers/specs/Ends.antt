@@ -34,7 +34,7 @@ done_of (Ok (ends.Lost s)) = None
 done_of (Ok (ends.Starved s q)) = None
 done_of (Err e) = None
 
--- the first of two, where there is one, else the second
+-- the first of two, if there is one, else the second
 abbrev pub first_some : {A : Type 0} → Option A → Option A → Option A
 first_some None other = other
 first_some (Some a) other = Some a
@@ -71,20 +71,20 @@ waited node (Err e) = None
 abbrev pub all_lost : List (Result NodeEnd NodeError) → Bool
 all_lost own = list_all is_lost own
 
--- the least partition all of whose nodes were lost, where the first one has number p
+-- the least partition all of whose nodes were lost, if the first one has number p
 unfoldable pub least_lost : {V : Type 0} → (V → List (Result NodeEnd NodeError)) → ℕ → List V →
     Option ℕ
 least_lost items p [] = None
 least_lost items p (own ∷ more) =
     if all_lost (items own) then Some p else least_lost items (p + 1) more
 
--- the least node of partition p that waited in vain, where the first one has number k
+-- the least node of partition p that waited in vain, if the first one has number k
 unfoldable pub first_waiting : ℕ → ℕ → List (Result NodeEnd NodeError) → Option Waiting
 first_waiting p k [] = None
 first_waiting p k (r ∷ more) =
     first_some (waited (record { part = p; replica = k }) r) (first_waiting p (k + 1) more)
 
--- the least node that waited in vain, where the first partition has number p
+-- the least node that waited in vain, if the first partition has number p
 unfoldable pub least_waiting : {V : Type 0} → (V → List (Result NodeEnd NodeError)) → ℕ → List V →
     Option Waiting
 least_waiting items p [] = None
@@ -137,11 +137,11 @@ fault_noted f = fault_by f.lost f.full f.memory f.starved
 abbrev pub first_fault : {V : Type 0} → (V → List (Result NodeEnd NodeError)) → List V → JobError
 first_fault items all = fault_noted (faults_in items all)
 
--- none where all is done, else that fault
+-- none if all is done, else that fault
 abbrev pub fault_unless : Bool → JobError → Option JobError
 fault_unless true e = None
 fault_unless false e = Some e
 
--- the first fault of all nodes, where some partition has no node that has reached the end
+-- the first fault of all nodes, if some partition has no node that has reached the end
 abbrev pub fault_in : {V : Type 0} → (V → List (Result NodeEnd NodeError)) → List V → Option JobError
 fault_in items all = fault_unless (each_has_done items all) (first_fault items all)

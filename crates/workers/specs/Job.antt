@@ -1,4 +1,4 @@
--- All nodes of a job: what they are told, and what they say at their ends.
+-- All nodes of a job: their orders, and what they say at their ends.
 use Rattle.std.specs.Prelude.{◌≡◌, ◌≢◌, ⊤, ℕ, ◌+◌, ◌*◌, ◌^◌, ◌<◌, ◌≤◌, List, [], ◌∷◌, length, Option, None, is_some, true, false, Result, Err, IfErr, IfOk, IfSome, slice_index_or}
 use Rattle.ball_model.specs.declared.names.NodeId.{NodeId}
 use Rattle.ball_model.specs.declared.plan.TheConstants.{MOST_REPLICAS}
@@ -22,12 +22,12 @@ use Rattle.workers.specs.Options.{order_for, orders_for}
 use Rattle.workers.specs.Superstep.{EndsAs}
 use Rattle.workers.specs.Tie.{AreOfNode}
 
--- each element has what its place says, where the first one has place k
+-- each element has what its place says, if the first one has place k
 abbrev pub EachAt : {A : Type 0} → (ℕ → A → Type 0) → ℕ → List A → Type 0
 EachAt has k [] = ⊤
 EachAt has k (x ∷ xs) = has k x × EachAt has (k + 1) xs
 
--- what a node of partition p, told so, says at its end
+-- what a node of partition p with these orders says at its end
 pub record KeepsItsOrders (j : Job) (p : ℕ) (orders : NodeOrders)
     (r : Result NodeEnd NodeError) : Type 0 where
   pub done : IfOk r (λ end. IfDone end (IsDone j p))
@@ -36,7 +36,7 @@ pub record KeepsItsOrders (j : Job) (p : ℕ) (orders : NodeOrders)
   pub alone_fits : j.plan.parts ≡ 1 → orders.keep ≡ 0 → orders.restart ≡ None →
       r ≢ Err fault.BookFull
 
--- a run of a node of partition p that is told so, and has this end: what its caller had seen before the first of its
+-- a run of a node of partition p that has these orders and this end: what its caller had seen before the first of its
 -- calls, and after the last
 pub record HasRun (j : Job) (entries p : ℕ) (orders : NodeOrders)
     (r : Result NodeEnd NodeError) : Type 0 where
@@ -123,7 +123,7 @@ pub record AreEnds {V : Type 0} (items : V → List (Result NodeEnd NodeError)) 
 abbrev pub AllOrdered : ℕ → ℕ → List (NodeId × ℕ) → Type 0
 AllOrdered replicas p orders = (k : ℕ) → k < replicas → is_some (order_for p k orders) ≡ true
 
--- the threads of partition p's nodes, each told what its node is told
+-- the threads of partition p's nodes, each with the orders of its node
 pub record IsPartStarted {H : Type 0} (assigned : H → Assignment) (j : Job) (o : RunOptions) (p : ℕ)
     (children : List (Option H)) : Type 0 where
   pub below : p < j.plan.parts
@@ -141,7 +141,7 @@ pub record IsPartitionLost (parts : ℕ) (o : RunOptions) (p : ℕ) : Type 0 whe
   pub below : p < parts
   pub ordered : AllOrdered o.replicas p o.lose.items
 
--- the first fault of the ends of all nodes, where some partition has no node that is done
+-- the first fault of the ends of all nodes, if some partition has no node that is done
 pub record IsFirstFault (j : Job) (o : RunOptions) (e : JobError) : Type 0 where
   pub ends : List (List (Result NodeEnd NodeError))
   pub all : AreEnds (λ own. own) j o ends

@@ -17,7 +17,7 @@ use Rattle.workers.specs.declared.node.NodeEnd.TheVariants as ends
 use Rattle.workers.specs.declared.node.NodeError.{NodeError}
 use Rattle.workers.specs.declared.node.NodeError.TheVariants as fault
 
--- a node's error where its board refuses a call
+-- a node's error if its board refuses a call
 abbrev pub node_error : BoardError → NodeError
 node_error board.BookFull = fault.BookFull
 node_error board.Memory = fault.Memory
@@ -27,11 +27,11 @@ abbrev pub FallsDue : Option ℕ → ℕ → Type 0
 FallsDue None s = ⊥
 FallsDue (Some at) s = at ≤ s
 
--- at superstep s a snapshot is kept, where one is every so many supersteps
+-- at superstep s a snapshot is kept, if one is every so many supersteps
 abbrev pub is_kept_at : ℕ → ℕ → Bool
 is_kept_at every s = not (every == 0) && (s % every == 0)
 
--- at some moment since then the name did not stand
+-- at some moment since then the name was not on the board
 pub record WasMissing (v : Caller) (name : BatchName) (w : Caller) : Type 0 where
   pub moment : History
   pub since : Begins v.seen moment
@@ -46,7 +46,7 @@ pub record HasPosted (v : Caller) (name : BatchName) (w : Caller) : Type 0 where
   pub made : calls_by v.number w.seen
       ≡ calls_by v.number v.seen ++ (before ++ Post name reply ∷ later)
 
--- partition p has told every other one of superstep s
+-- partition p has posted for every other one a batch of superstep s
 abbrev pub HasToldAll : Caller → ℕ → ℕ → Caller → Type 0
 HasToldAll v s p w = (r : ℕ) → r < v.seen.job.plan.parts → r ≢ p → HasPosted v (batch_name s p r) w
 
@@ -55,19 +55,19 @@ pub record IsDone (j : Job) (p : ℕ) (r : State) : Type 0 where
   pub stands : StandsFor j p (end_of (mixing_of j.plan) j.graph j.plan.limit) r
   pub over : EndsRun (found_verdict r)
 
--- what is said of the replica, where the node is done
+-- what is said of the replica, if the node is done
 abbrev pub IfDone : NodeEnd → (State → Type 0) → Type 0
 IfDone (ends.Done r) says = says r
 IfDone (ends.Lost s) says = ⊤
 IfDone (ends.Starved s q) says = ⊤
 
--- what is said of the superstep, where the node was lost
+-- what is said of the superstep, if the node was lost
 abbrev pub IfLost : NodeEnd → (ℕ → Type 0) → Type 0
 IfLost (ends.Done r) says = ⊤
 IfLost (ends.Lost s) says = says s
 IfLost (ends.Starved s q) says = ⊤
 
--- what is said of the superstep and the source, where the node waited in vain
+-- what is said of the superstep and the source, if the node waited in vain
 abbrev pub IfStarved : NodeEnd → (ℕ → ℕ → Type 0) → Type 0
 IfStarved (ends.Done r) says = ⊤
 IfStarved (ends.Lost s) says = ⊤

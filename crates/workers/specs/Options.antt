@@ -49,7 +49,7 @@ order_for p k [] = None
 order_for p k (o ∷ more) =
     if (o.0.part == p) && (o.0.replica == k) then Some o.1 else order_for p k more
 
--- what that replica is told
+-- the orders of that replica
 abbrev pub orders_for : RunOptions → ℕ → ℕ → NodeOrders
 orders_for o p k = record {
   keep = o.keep;

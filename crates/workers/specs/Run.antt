@@ -22,7 +22,7 @@ use Rattle.workers.specs.declared.runs.RunError.TheVariants as fault
 use Rattle.workers.specs.Job.{IsFaultOf, IsFirstFault}
 use Rattle.workers.specs.Options.{are_in_limits, run_job}
 
--- where a reader tells its bytes, and these and the list are plain, this holds of what is asked
+-- if a reader tells its bytes, and these and the list are plain, this holds of what is asked
 abbrev pub WherePlain : RunOptions → Option (List ℕ) → Option (Bor (List ℕ)) →
     (Settings → List ℕ → Option (List ℕ) → Type 0) → Type 0
 WherePlain o told counted holds = IfSome told (λ input.
@@ -76,7 +76,7 @@ IsFaultIn o fault.Memory = ⊤
 IsFaultIn o (fault.Starved node s q) = IsFaultOf o.parts o (job.Starved node s q)
 IsFaultIn o fault.Write = ⊤
 
--- what a refusal says of the input: each comes only where all checks before it passed
+-- what a refusal says of the input: each comes only if all checks before it passed
 abbrev pub IsRunRefusal : Settings → List ℕ → Option (List ℕ) → RunError → Type 0
 IsRunRefusal s input list fault.Options = ⊤
 IsRunRefusal s input list (fault.Edges e) = Refuses (network_in s input) e

@@ -51,7 +51,7 @@ IsFound v p s r found.Level w = (missing_in r ≡ None) × (r.superstep ≡ s)
 IsFound v p s r found.Further w = s < r.superstep
 IsFound v p s r (found.Missed q) w = WasWaiting v s q p w × (r.superstep ≡ s)
 
--- the partition has told all others, and waited for the batch of q
+-- the partition has posted for all others, and waited for the batch of q
 abbrev pub HasStarved : Caller → ℕ → ℕ → ℕ → Caller → Type 0
 HasStarved v s q p w = HasToldAll v s p w × WasWaiting v s q p w
 
@@ -108,11 +108,11 @@ pub record HasRecalled (v : Caller) (p least before now : ℕ) (w : Caller) : Ty
   pub called : Called v (Recall p least content) w
   pub superstep : now ≡ max before content.superstep
 
--- a replica that starts again has nothing of a superstep behind its own: it is at the start, or took over a snapshot
+-- a replica that starts again is at the start, or took over a snapshot
 abbrev pub IsAnew : Caller → ℕ → ℕ → Caller → Type 0
 IsAnew v p now w = (now ≡ 0) ⊎ HasRecalled v p 0 0 now w
 
--- what the end of a node of partition p says, which was told so
+-- what the end of a node of partition p says, which had these orders
 pub record EndsAs (v : Caller) (p : ℕ) (orders : NodeOrders) (e : Result NodeEnd NodeError)
     (w : Caller) : Type 0 where
   pub done : IfOk e (λ end. IfDone end (IsDone v.seen.job p))

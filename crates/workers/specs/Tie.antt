@@ -67,7 +67,7 @@ AreOwnSteps j p h [] = ⊤
 AreOwnSteps j p h (step ∷ steps) =
     IsOwnStep j h step × AreOwnSteps j p (after_step j p h step) steps
 
--- where a node at superstep s drops batches, those of the superstep before its own stay
+-- if a node at superstep s drops batches, those of the superstep before its own stay
 abbrev pub SparesLast : ℕ → Step → Type 0
 SparesLast s (Calls (Post name r)) = ⊤
 SparesLast s (Calls (Fetch name)) = ⊤
@@ -124,7 +124,7 @@ pub record HasWandered (v : Caller) (p : ℕ) (old new : Holding) (w : Caller) :
   pub calls : calls_by v.number w.seen ≡ calls_by v.number v.seen ++ calls_among steps
   pub held : after_steps v.seen.job p old steps ≡ new
 
--- since then the caller's own calls are those of a node of partition p, which keeps a snapshot as often as it is told
+-- since then the caller's own calls are those of a node of partition p, which keeps a snapshot as often as `keep` says
 -- and came from one holding to the other
 pub record IsPath (keep : ℕ) (v : Caller) (p : ℕ) (old new : Holding) (w : Caller) : Type 0 where
   pub steps : List Step
@@ -161,7 +161,7 @@ pub record HasReached (keep : ℕ) (v : Caller) (p s : ℕ) (w : Caller) : Type 
 abbrev pub IsPathTo : ℕ → Caller → ℕ → State → Caller → Type 0
 IsPathTo keep v p r w = IsPath keep v p (start_holding v.seen.job.plan p) (holding_in r) w
 
--- among the caller's own calls since then is a keep of superstep s, where that is to be kept
+-- among the caller's own calls since then is a keep of superstep s, if that is to be kept
 pub record HasKeptAt (v : Caller) (s : ℕ) (w : Caller) : Type 0 where
   pub made : List HistoryEvent
   pub calls : calls_by v.number w.seen ≡ calls_by v.number v.seen ++ made
@@ -185,7 +185,7 @@ pub record AreOfNode (j : Job) (made : List HistoryEvent) : Type 0 where
   pub held : Holding
   pub path : Reaches j part made steps held
 
--- the name of what a call posted, where it was new
+-- the name of what a call posted, if it was new
 abbrev pub sent_by : HistoryEvent → List BatchName
 sent_by (Post name r) = if is_new_post r then name ∷ [] else []
 sent_by (Fetch name) = []
@@ -193,7 +193,7 @@ sent_by (Keep c r) = []
 sent_by (Recall p s c) = []
 sent_by (Drop s) = []
 
--- the content that a call was to keep, also where another one was as far already
+-- the content that a call was to keep, also if another one was as far already
 abbrev pub copied_by : HistoryEvent → List Holding
 copied_by (Post name r) = []
 copied_by (Fetch name) = []

@@ -13,7 +13,7 @@ ghost use Rattle.workers.specs.Ends.{first_fault, first_some, is_done, is_lost, 
 ghost use Rattle.workers.specs.Ends.{with_part};
 ghost use Rattle.workers.specs.Options.{orders_for};
 ghost use Rattle.workers.specs.declared.node.NodeOrders.{NodeOrders as Orders};
-ghost use Rattle.workers.specs.declared.options.RunOptions.{RunOptions as Asked};
+ghost use Rattle.workers.specs.declared.options.RunOptions.{RunOptions};
 
 use crate::assignment::NodeResult;
 use crate::node::{NodeEnd, NodeError};
@@ -70,7 +70,7 @@ pub struct Faults {
 impl Faults {
     // Nothing is noted yet.
     fn none() -> Faults
-        ensures noted { (parts : ℕ) (o : Asked) → AreNoted parts o result }
+        ensures noted { (parts : ℕ) (o : RunOptions) → AreNoted parts o result }
         ensures exact { result ≡ no_faults }
     {
         Faults {
@@ -83,7 +83,7 @@ impl Faults {
 
     // The first of them by the order of the checks.
     fn first(&self) -> JobError
-        ensures fault { (parts : ℕ) (o : Asked) → AreNoted parts o self.now →
+        ensures fault { (parts : ℕ) (o : RunOptions) → AreNoted parts o self.now →
             IsFaultOf parts o result }
         ensures exact { result ≡ fault_noted self.now }
     {
@@ -114,7 +114,7 @@ impl Faults {
 fn note(faults: &mut Faults, node: NodeId, end: &NodeResult) -> bool
     ensures lost { (j : Job) (p : ℕ) (orders : Orders) → KeepsItsOrders j p orders end.now →
         result ≡ true → is_some orders.lose ≡ true }
-    ensures noted { (j : Job) (o : Asked) (p k : ℕ) →
+    ensures noted { (j : Job) (o : RunOptions) (p k : ℕ) →
         KeepsItsOrders j p (orders_for o p k) end.now → AreNoted j.plan.parts o faults.old →
         AreNoted j.plan.parts o faults.new }
     ensures exact { faults.new ≡ with_end node end.now faults.old }
@@ -146,7 +146,7 @@ fn note(faults: &mut Faults, node: NodeId, end: &NodeResult) -> bool
 
 // Notes a partition all of whose nodes were lost.
 fn note_lost(faults: &mut Faults, p: u16)
-    ensures noted { (parts : ℕ) (o : Asked) → IsPartitionLost parts o p →
+    ensures noted { (parts : ℕ) (o : RunOptions) → IsPartitionLost parts o p →
         AreNoted parts o faults.old → AreNoted parts o faults.new }
     ensures exact { faults.new ≡
         record faults.old { lost = first_some faults.old.lost (Some p) } }
@@ -166,7 +166,7 @@ pub fn is_done(end: &NodeResult) -> bool
 // Notes what is wrong with the nodes of a partition, and tells whether one of them has reached the end.
 fn note_part(faults: &mut Faults, p: u16, ends: &[NodeResult]) -> bool
     requires few { length ends.now ≤ MOST_REPLICAS }
-    ensures noted { (j : Job) (o : Asked) → IsPartEnd j o p ends.now → p < j.plan.parts →
+    ensures noted { (j : Job) (o : RunOptions) → IsPartEnd j o p ends.now → p < j.plan.parts →
         AreNoted j.plan.parts o faults.old → AreNoted j.plan.parts o faults.new }
     ensures exact { faults.new ≡ with_part p ends.now faults.old }
     ensures told { result ≡ list_any is_done ends.now }
@@ -186,12 +186,12 @@ fn note_part(faults: &mut Faults, p: u16, ends: &[NodeResult]) -> bool
     done
 }
 
-// The first fault of all nodes, where some partition has no node that has reached the end. It takes no memory.
+// The first fault of all nodes, if some partition has no node that has reached the end. It takes no memory.
 fn fault_in(ends: &[Vec<NodeResult>]) -> Option<JobError>
     requires few { All (λ own. length own.items ≤ MOST_REPLICAS) ends.now }
     requires parts { length ends.now ≤ most_parts }
     ensures exact { result ≡ fault_in (λ own. own.items) ends.now }
-    ensures fault { (j : Job) (o : Asked) → AreEnds (λ own. own.items) j o ends.now →
+    ensures fault { (j : Job) (o : RunOptions) → AreEnds (λ own. own.items) j o ends.now →
         IfSome result (IsFaultOf j.plan.parts o) }
 {
     let mut faults = Faults::none();
@@ -229,7 +229,7 @@ fn done_replica(ends: Vec<NodeResult>) -> Option<Replica>
 // refused.
 fn collect_done(alloc: Global, ends: Vec<Vec<NodeResult>>) -> Result<Vec<Replica>, AllocError>
     requires { each_has_done (λ own. own.items) ends.items ≡ true }
-    ensures { (j : Job) (o : Asked) → AreEnds (λ own. own.items) j o ends.items →
+    ensures { (j : Job) (o : RunOptions) → AreEnds (λ own. own.items) j o ends.items →
         IfOk result (λ rs. AreDone j rs.items) }
 {
     let mut replicas = Vec::with_capacity(alloc, ends.len())?;
@@ -243,14 +243,14 @@ fn collect_done(alloc: Global, ends: Vec<Vec<NodeResult>>) -> Result<Vec<Replica
     Ok(replicas)
 }
 
-/// The replica of each partition, by the ends of its nodes: that of the first node that is done. Where a partition has
-/// none, the error is the first fault of all nodes; else it is `Memory`, where that is refused here.
+/// The replica of each partition, by the ends of its nodes: that of the first node that is done. If a partition has
+/// none, the error is the first fault of all nodes; else it is `Memory`, if that is refused here.
 pub fn done_replicas(alloc: Global, ends: Vec<Vec<NodeResult>>) -> Result<Vec<Replica>, JobError>
     requires few { All (λ own. length own.items ≤ MOST_REPLICAS) ends.items }
     requires parts { length ends.items ≤ most_parts }
-    ensures done { (j : Job) (o : Asked) → AreEnds (λ own. own.items) j o ends.items →
+    ensures done { (j : Job) (o : RunOptions) → AreEnds (λ own. own.items) j o ends.items →
         IfOk result (λ rs. AreDone j rs.items) }
-    ensures fault { (j : Job) (o : Asked) → AreEnds (λ own. own.items) j o ends.items →
+    ensures fault { (j : Job) (o : RunOptions) → AreEnds (λ own. own.items) j o ends.items →
         IfErr result (IsFaultOf j.plan.parts o) }
     ensures first { IfErr result (λ e. e ≢ JobError.Memory →
         e ≡ first_fault (λ own. own.items) ends.items) }

@@ -19,15 +19,15 @@ use std::sync::{Arc, Wait};
 
 /// A place at a board, or what stands in for one.
 ///
-/// The calls, their answers and their errors are those of a board; who calls is a member that contracts see. Where a
-/// call answers an error it has added no entry, and the caller has then seen the whole history.
+/// The calls, their answers and their errors are those of a board; who calls is a member that contracts see. If a call
+/// answers an error it has added no entry, and the caller has then seen the whole history.
 pub trait Exchange {
     ghost caller: { Self → Caller };
 
-    /// Posts a batch, which is the true one of its name: [`Old`](Posted::Old) below the floor,
-    /// [`Known`](Posted::Known) where the name stands, else [`New`](Posted::New), and the name stands from then on.
+    /// Posts a batch, which is the true one of its name: [`Old`](Posted::Old) below the floor, [`Known`](Posted::Known)
+    /// if the name is there, else [`New`](Posted::New), and the name is there from then on.
     ///
-    /// [`BookFull`](BoardError::BookFull) where the history is full, then [`Memory`](BoardError::Memory).
+    /// [`BookFull`](BoardError::BookFull) if the history is full, then [`Memory`](BoardError::Memory).
     fn post<R: Wait>(&mut self, rt: &R, batch: Arc<Batch>) -> Result<Posted, BoardError>
         requires batch { IsTrueBatch (caller self.old).seen.job (arc_value batch) }
         ensures seen { Extends (caller self.old) (caller self.new) }
@@ -37,9 +37,9 @@ pub trait Exchange {
         ensures full { IfErr result (λ e. e ≡ BookFull → IsFull (caller self.new)) }
         ensures memory { IfErr result (λ e. e ≡ Memory → HasRoom (caller self.new)) };
 
-    /// Finds the batch of a name: None exactly where the name does not stand, and then no entry is added.
+    /// Finds the batch of a name: None exactly if the name is not there, and then no entry is added.
     ///
-    /// [`BookFull`](BoardError::BookFull) where the name stands and the history is full, then
+    /// [`BookFull`](BoardError::BookFull) if the name is there and the history is full, then
     /// [`Memory`](BoardError::Memory).
     fn fetch<R: Wait>(&mut self, rt: &R, name: BatchName) -> Result<Option<Arc<Batch>>, BoardError>
         ensures seen { Extends (caller self.old) (caller self.new) }
@@ -56,10 +56,10 @@ pub trait Exchange {
         ensures full { IfErr result (λ e. e ≡ BookFull → IsFull (caller self.new)) }
         ensures memory { IfErr result (λ e. e ≡ Memory → HasRoom (caller self.new)) };
 
-    /// Keeps a snapshot of the job: [`New`](Kept::New) where it is further than the one kept for its partition, which it
+    /// Keeps a snapshot of the job: [`New`](Kept::New) if it is further than the one kept for its partition, which it
     /// takes the place of, else [`Behind`](Kept::Behind).
     ///
-    /// [`BookFull`](BoardError::BookFull) where the history is full, then [`Memory`](BoardError::Memory).
+    /// [`BookFull`](BoardError::BookFull) if the history is full, then [`Memory`](BoardError::Memory).
     fn keep<R: Wait>(&mut self, rt: &R, snapshot: Arc<Snapshot>) -> Result<Kept, BoardError>
         requires snapshot { Stands (caller self.old).seen.job (arc_value snapshot) }
         ensures seen { Extends (caller self.old) (caller self.new) }
@@ -69,11 +69,10 @@ pub trait Exchange {
         ensures full { IfErr result (λ e. e ≡ BookFull → IsFull (caller self.new)) }
         ensures memory { IfErr result (λ e. e ≡ Memory → HasRoom (caller self.new)) };
 
-    /// Finds the snapshot that is kept for a partition: None exactly where there is none whose superstep is `at_least`
-    /// so much, and then no entry is added. It is at least as far as what the caller had seen kept.
+    /// Finds the snapshot that is kept for a partition: None exactly if there is none whose superstep is `at_least` so
+    /// much, and then no entry is added. It is at least as far as what the caller had seen kept.
     ///
-    /// [`BookFull`](BoardError::BookFull) where there is one and the history is full, then
-    /// [`Memory`](BoardError::Memory).
+    /// [`BookFull`](BoardError::BookFull) if there is one and the history is full, then [`Memory`](BoardError::Memory).
     fn recall<R: Wait>(
         &mut self,
         rt: &R,
@@ -99,7 +98,7 @@ pub trait Exchange {
 
     /// Raises the floor to `superstep` at least, and drops the batches below it.
     ///
-    /// [`BookFull`](BoardError::BookFull) where the history is full, then [`Memory`](BoardError::Memory).
+    /// [`BookFull`](BoardError::BookFull) if the history is full, then [`Memory`](BoardError::Memory).
     fn drop_below<R: Wait>(&mut self, rt: &R, superstep: u32) -> Result<(), BoardError>
         ensures seen { Extends (caller self.old) (caller self.new) }
         ensures ok { OnOk result (Called (caller self.old) (Drop superstep) (caller self.new)) }

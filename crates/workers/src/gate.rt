@@ -23,7 +23,7 @@ pub trait Gate {
     /// The node waits: nothing that it needs is there, and it looks again after this call.
     fn idle(&self, node: NodeId);
 
-    /// The node waits for what a partition tells; the answer is whether it may still come. Where it is false, the node
+    /// The node waits for what a partition tells; the answer is whether it may still come. If it is false, the node
     /// looks once more, and gives up. As given, it is an idle turn, and true.
     fn wait_for(&self, node: NodeId, _source: u16) -> bool {
         self.idle(node);
@@ -54,7 +54,7 @@ pub struct UnwatchedGate<'a, G> {
 }
 
 impl<'a, G: Gate> UnwatchedGate<'a, G> {
-    /// The gate inside, which is not told how the run gets on.
+    /// The gate inside, which does not hear how the run gets on.
     pub fn new(gate: &'a G) -> UnwatchedGate<'a, G> {
         UnwatchedGate { gate }
     }

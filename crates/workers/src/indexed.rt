@@ -64,12 +64,12 @@ impl IndexedPart {
     }
 }
 
-/// A part that is shared, for one replica, with its index where that was made already. ([`IndexedPart`] becomes one; a
+/// A part that is shared, for one replica, with its index if that was made already. ([`IndexedPart`] becomes one; a
 /// caller's part is one from the start.)
 #[derive(Drop)]
 pub(crate) struct ReadyPart {
     part: Arc<Part>,
-    // none where the replica makes it
+    // none if the replica makes it
     targets: Option<Targets>,
 }
 

@@ -8,7 +8,6 @@ ghost use Rattle.workers.specs.Job.{AreDone, AreEnds, AreParts, AreStarted, HasS
 ghost use Rattle.workers.specs.Job.{IsFaultOf, IsFirstFault, IsNodeEnd, IsPartEnd, IsPartStarted};
 ghost use Rattle.workers.specs.Job.{HasRun, IsSeatOf, KeepsItsOrders};
 ghost use Rattle.workers.specs.Options.{are_in_limits, order_for, orders_for};
-ghost use Rattle.workers.specs.declared.options.RunOptions.{RunOptions as Asked};
 
 use crate::assignment::{Assignment, NodeResult};
 use crate::ends::{JobError, done_replicas, is_done};
@@ -19,7 +18,7 @@ use crate::node::{NodeError, NodeOrders};
 use crate::options::RunOptions;
 use crate::planned::Planned;
 use crate::running::{RunGate, Running};
-use crate::threads::{share_of, threads_for};
+use crate::threads::share_of;
 use crate::worker::Worker;
 use ball_model::{NodeId, Plan};
 use board::{Board, Seat};
@@ -32,7 +31,7 @@ use std::sync::Wait;
 use std::thread;
 use std::thread::{PromisedHandle, Scope, Threads};
 
-// The thread of a node, where there could be one.
+// The thread of a node, if there could be one.
 type Child = Option<PromisedHandle<NodeResult, Assignment>>;
 
 // The first order for a node.
@@ -47,7 +46,7 @@ fn order_for(orders: &[(NodeId, u32)], node: NodeId) -> Option<u32>
     None
 }
 
-// What a node is told.
+// The orders of a node.
 fn orders_for(options: &RunOptions, node: NodeId) -> NodeOrders
     ensures { result ≡ orders_for options.now node.part node.replica }
 {
@@ -68,7 +67,7 @@ struct Post {
     orders: NodeOrders,
 }
 
-// Runs a node at its seat, and tells the others where it ends before the end of the run.
+// Runs a node at its seat, and tells the others if it ends before the end of the run.
 fn run_at<R: AllocGlobal + Threads + Wait + Sync, G: Gate + Watch>(
     rt: &R,
     board: &Board,
@@ -226,30 +225,6 @@ impl<'a, R: AllocGlobal + Threads + Wait + Sync, G: Gate + Watch + Sync> Crew<'a
     fn start_all<'s, X>(
         &'a self,
         scope: &'s Scope<'s, X>,
-        first: &mut Seat,
-        parts: &mut [ReadyPart],
-    ) -> Result<Vec<Vec<Child>>, AllocError>
-    where
-        'a: 's,
-        requires parts { AreParts self.now.job parts.old }
-        requires seat { HasSplit self.now.board self.now.job 0 first.old }
-        ensures { IfOk result (λ all. AreStarted (λ child. child.promise) (λ own. own.items)
-            self.now.job self.now.options all.items) }
-    {
-        let count = self.plan.parts();
-        let mut children = Vec::with_capacity(self.rt.alloc(), usize::from(count))?;
-        for p in 0..count {
-            let part = &mut parts[usize::from(p)];
-            let own = self.start_part(scope, first, p, part)?;
-            children.push(own)?;
-        }
-        Ok(children)
-    }
-
-    // Starts the threads of all nodes; where that fails, those that were started wait no more.
-    fn start_or_stop<'s, X>(
-        &'a self,
-        scope: &'s Scope<'s, X>,
         mut first: Seat,
         parts: &mut [ReadyPart],
     ) -> Result<Vec<Vec<Child>>, AllocError>
@@ -260,14 +235,18 @@ impl<'a, R: AllocGlobal + Threads + Wait + Sync, G: Gate + Watch + Sync> Crew<'a
         ensures { IfOk result (λ all. AreStarted (λ child. child.promise) (λ own. own.items)
             self.now.job self.now.options all.items) }
     {
-        let started = self.start_all(scope, &mut first, parts);
-        if started.is_err() {
-            self.running.stop();
+        let count = self.plan.parts();
+        let mut children = Vec::with_capacity(self.rt.alloc(), usize::from(count))?;
+        for p in 0..count {
+            let part = &mut parts[usize::from(p)];
+            let own = self.start_part(scope, &mut first, p, part)?;
+            children.push(own)?;
         }
-        started
+        Ok(children)
     }
 
-    // Starts all nodes, waits for all, and puts together what they say.
+    // Starts all nodes, waits for all, and puts together what they say. If not all can be started, those that were
+    // started stop waiting.
     fn run_in<'s, X>(
         &'a self,
         scope: &'s Scope<'s, X>,
@@ -283,7 +262,10 @@ impl<'a, R: AllocGlobal + Threads + Wait + Sync, G: Gate + Watch + Sync> Crew<'a
         ensures first { IfErr result (λ e. e ≢ JobError.Memory →
             IsFirstFault self.now.job self.now.options e) }
     {
-        let children = self.start_or_stop(scope, first, parts)?;
+        let Ok(children) = self.start_all(scope, first, parts) else {
+            self.running.stop();
+            return Err(JobError::Memory);
+        };
         let ends = join_all(self.rt, children)?;
         done_replicas(self.rt.alloc(), ends)
     }
@@ -291,7 +273,7 @@ impl<'a, R: AllocGlobal + Threads + Wait + Sync, G: Gate + Watch + Sync> Crew<'a
 
 // The end of a node, once its thread has ended; a node without a thread ended for want of memory.
 fn end_of<R: Threads>(rt: &R, child: Child) -> NodeResult
-    ensures { (j : Job) (o : Asked) (p k : ℕ) → p < j.plan.parts →
+    ensures { (j : Job) (o : RunOptions) (p k : ℕ) → p < j.plan.parts →
         IfSome child (λ h. IsAssigned j o p k h.promise) → IsNodeEnd j o p k result }
 {
     match child {
@@ -305,7 +287,7 @@ fn join_part<R: AllocGlobal + Threads>(
     rt: &R,
     children: Vec<Child>,
 ) -> Result<Vec<NodeResult>, AllocError>
-    ensures { (j : Job) (o : Asked) (p : ℕ) →
+    ensures { (j : Job) (o : RunOptions) (p : ℕ) →
         IsPartStarted (λ child. child.promise) j o p children.items →
         IfOk result (λ ends. IsPartEnd j o p ends.items) }
 {
@@ -321,7 +303,7 @@ fn join_all<R: AllocGlobal + Threads>(
     rt: &R,
     children: Vec<Vec<Child>>,
 ) -> Result<Vec<Vec<NodeResult>>, AllocError>
-    ensures { (j : Job) (o : Asked) →
+    ensures { (j : Job) (o : RunOptions) →
         AreStarted (λ child. child.promise) (λ own. own.items) j o children.items →
         IfOk result (λ ends. AreEnds (λ own. own.items) j o ends.items) }
 {
@@ -353,7 +335,7 @@ pub fn run_job<'a, R: AllocGlobal + Threads + Wait + Sync, G: Gate + Watch + Syn
     let Planned { plan, mut parts } = planned;
     let (board, first) = Board::open(rt.alloc(), graph, &plan, options.entries)?;
     let threads = share_of(
-        threads_for(rt, options.threads),
+        options.job().threads_for(rt),
         plan.parts(),
         options.replicas,
     );

@@ -1,4 +1,4 @@
-//! Runs: nodes that post what they have to tell, fetch what they are told, and go on, a thread each.
+//! Runs: nodes that post what they have to tell, fetch what others tell them, and go on, a thread each.
 //!
 //! [`run`] goes from an edge list to its report, by [`RunOptions`]: a board for the job, and a thread for each replica of
 //! each partition. Its [`RunError`] says why there is no report.
@@ -11,7 +11,7 @@
 //! [`run_node`] takes one node of a partition from superstep 0 to its end, over an [`Exchange`]: a board with a seat
 //! ([`BoardExchange`]), or a board of one caller in memory ([`MemoryExchange`]). [`NodeOrders`] say how often it keeps
 //! a snapshot, how long it waits, and whether it is lost or starts anew; [`NodeEnd`] says how it ended. A [`Gate`] is
-//! called round each of its posts, and while it waits; [`run_watched`] has one that is also told how a run gets on.
+//! called round each of its posts, and while it waits; [`run_watched`] has one that also hears how a run gets on.
 //!
 //! ```text
 //! let mut exchange = MemoryExchange::open(alloc, &graph, &plan, 64)?;
@@ -20,8 +20,8 @@
 //! ```
 //!
 //! A node that waits looks at the length of the history after each idle turn, and in a run it waits for nobody whose
-//! nodes have all ended too early: a run that cannot reach its end says so at once. Where another node of its partition has
-//! kept a snapshot of a further superstep, it takes that over and goes on from there.
+//! nodes have all ended too early: a run that cannot reach its end says so at once. If another node of its partition
+//! has kept a snapshot of a further superstep, it takes that over and goes on from there.
 #![tactic(auto)]
 
 mod assignment;

@@ -20,7 +20,7 @@ use crate::gate::{Gate, UnwatchedGate};
 use crate::indexed::ReadyPart;
 use crate::shared::SharedTables;
 use crate::superstep::SuperstepEnd;
-use crate::threads::{share_of, threads_for};
+use crate::threads::share_of;
 use crate::worker::Worker;
 use ball_model::NodeId;
 use board::BoardError;
@@ -28,19 +28,19 @@ use edgelist::{Part, Watch};
 use replica::{Replica, Shown};
 use std::alloc::{AllocError, AllocGlobal, Global};
 use std::sync::{Arc, Wait};
-use std::thread::Threads;
+use std::thread::{Threads, available_parallelism};
 use thiserror::Error;
 
-/// What a node is told to do.
+/// What a node is to do.
 #[derive(Clone, Copy, Debug, PartialEq, Eq)]
 pub struct NodeOrders {
-    /// It keeps a snapshot at each superstep that is a multiple of this, and none where it is 0.
+    /// It keeps a snapshot at each superstep that is a multiple of this, and none if it is 0.
     pub keep: u32,
     /// After so many idle turns in succession it gives up.
     pub patience: u32,
-    /// It is lost at this superstep, or at the first that it reaches behind it.
+    /// It is lost at this superstep, or at the first that it reaches after it.
     pub lose: Option<u32>,
-    /// It starts anew, once, at this superstep, or at the first that it reaches behind it.
+    /// It starts anew, once, at this superstep, or at the first that it reaches after it.
     pub restart: Option<u32>,
 }
 
@@ -238,43 +238,23 @@ impl<'a, R: AllocGlobal + Threads + Wait + Sync, G: Gate + Watch> Worker<'a, R, 
             self.now.orders.restart ≡ None → result ≢ Err BookFull }
     {
         let shared = Arc::try_clone(part.part())?;
-        let replica = part.into_replica(self.rt.alloc())?;
-        self.run_from(exchange, &shared, replica)
-    }
-
-    // Runs the node to its end, by a new replica.
-    fn run_from<E: Exchange>(
-        &self,
-        exchange: &mut E,
-        part: &Arc<Part>,
-        replica: Replica,
-    ) -> Result<NodeEnd, NodeError>
-        requires caller { IsCaller (E.caller exchange.old) }
-        requires part { IsPartOf (E.caller exchange.old) self.now.node.part (arc_value part.now) }
-        requires first { IsFirst (E.caller exchange.old).seen.job self.now.node.part replica }
-        ensures seen { Extends (E.caller exchange.old) (E.caller exchange.new) }
-        ensures ends { EndsAs (E.caller exchange.old) self.now.node.part self.now.orders result
-            (E.caller exchange.new) }
-        ensures fits { (E.caller exchange.old).seen.job.plan.parts ≡ 1 → self.now.orders.keep ≡ 0 →
-            self.now.orders.restart ≡ None → result ≢ Err BookFull }
-    {
-        let mut replica = replica;
+        let mut replica = part.into_replica(self.rt.alloc())?;
         self.gate.after_start(self.node);
-        let fate = self.go_on(exchange, part, &mut replica);
+        let fate = self.go_on(exchange, &shared, &mut replica);
         end_with(fate, replica)
     }
 }
 
 /// Runs a node of a partition, from superstep 0 to its end.
 ///
-/// At each superstep it is lost or starts anew where an order falls due, keeps a snapshot, tells every other partition
+/// At each superstep it is lost or starts anew when an order falls due, keeps a snapshot, tells every other partition
 /// what changed, takes what they tell, and goes on. While a batch is missing it takes over a snapshot of a further
 /// superstep, if another node of its partition has kept one; else it idles until the history has grown. An error or an
-/// end leaves in the exchange the entries that were made before. Where many vertices changed it shares a superstep with
+/// end leaves in the exchange the entries that were made before. If many vertices changed it shares a superstep with
 /// other threads: of the processors each partition has as many.
 ///
-/// [`BookFull`](NodeError::BookFull) where a call of the exchange is refused because the history is full,
-/// [`Memory`](NodeError::Memory) where a growth is refused, each as it happens.
+/// [`BookFull`](NodeError::BookFull) if a call of the exchange is refused because the history is full,
+/// [`Memory`](NodeError::Memory) if a growth is refused, each as it happens.
 ///
 /// For a library's user: the program does not call it.
 pub fn run_node<R: AllocGlobal + Threads + Wait + Sync, E: Exchange, G: Gate>(
@@ -319,7 +299,11 @@ pub fn run_node<R: AllocGlobal + Threads + Wait + Sync, E: Exchange, G: Gate>(
     ensures alone_fits { (E.caller exchange.old).seen.job.plan.parts ≡ 1 → orders.now.keep ≡ 0 →
         orders.now.restart ≡ None → result ≢ Err BookFull }
 {
-    let threads = share_of(threads_for(rt, 0), part.plan().parts(), 1);
+    let processors = match available_parallelism(rt) {
+        Ok(processors) => processors.get(),
+        Err(_) => 1,
+    };
+    let threads = share_of(processors, part.plan().parts(), 1);
     let part = ReadyPart::of(part);
     let gate = UnwatchedGate::new(gate);
     let worker = Worker {

@@ -21,7 +21,7 @@ pub struct RunOptions {
     pub limit: u32,
     /// How the estimates of counters are made.
     pub estimate: Estimate,
-    /// What stands between the two fields of a line.
+    /// What is between the two fields of a line.
     pub delimiter: Delimiter,
     /// Whether up to 2^31 vertices and 2^32 - 1 records are taken, in place of 2^24 and 2^26.
     pub large: bool,
@@ -32,7 +32,7 @@ pub struct RunOptions {
     pub replicas: u8,
     /// How many entries the board's history may have, from 2 to 2^24.
     pub entries: u32,
-    /// Each node keeps a snapshot at each superstep that is a multiple of this, up to 4096, and none where it is 0.
+    /// Each node keeps a snapshot at each superstep that is a multiple of this, up to 4096, and none if it is 0.
     pub keep: u32,
     /// After so many idle turns in succession, at least 1, a node gives up.
     pub patience: u32,

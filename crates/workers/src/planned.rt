@@ -37,7 +37,7 @@ fn made_part(
     IndexedPart::of(alloc, graph.part_with(alloc, plan, p, feeds)?)
 }
 
-// The parts of all partitions, where there was memory for each, made by a thread of its own where there could be one. The
+// The parts of all partitions, if there was memory for each, made by a thread of its own if there could be one. The
 // edges are walked over once for the masks of all.
 fn made_parts<R: AllocGlobal + Threads + Sync>(
     rt: &R,

@@ -11,7 +11,7 @@ ghost use Rattle.edgelist.specs.Job.{numbers_of, settings_of};
 ghost use Rattle.edgelist.specs.Reading.{CountsOne};
 ghost use Rattle.edgelist.specs.Records.{ForPlain};
 ghost use Rattle.workers.specs.declared.ends.JobError.{JobError as NodesFault};
-ghost use Rattle.workers.specs.Job.{AreDone, AreParts, IsFaultOf, IsFirstFault};
+ghost use Rattle.workers.specs.Job.{AreDone};
 ghost use Rattle.workers.specs.Options.{are_in_limits, run_job};
 ghost use Rattle.workers.specs.Run.{AddsReport, AnswersNetwork, HasFirstFault, IsFaultIn};
 ghost use Rattle.workers.specs.Run.{IsRunFault, IsRunRefusal, RefusesEdges, TellsNone, TellsReport};
@@ -21,7 +21,7 @@ use crate::ends::JobError;
 use crate::gate::{Gate, UnwatchedGate};
 use crate::job::run_job;
 use crate::options::RunOptions;
-use crate::planned::{Planned, plan_parts};
+use crate::planned::plan_parts;
 use ball_model::{CountedRead, CountedWrite, CountingWriter, NodeId, Plan, PlanError};
 use edgelist::{CountedError, EdgeError, Graph, NetworkError, Watch};
 use replica::Replica;
@@ -126,7 +126,7 @@ impl From<JobError> for RunError {
     }
 }
 
-// The text of the report of replicas at the end of their run, by at most so many threads; by all processors where 0 are
+// The text of the report of replicas at the end of their run, by at most so many threads; by all processors if 0 are
 // asked for. The error is that memory was refused.
 fn replicas_text<T: AllocGlobal + Threads + Sync>(
     rt: &T,
@@ -156,24 +156,6 @@ struct WatchedRun<'a, T, G> {
 }
 
 impl<'a, T: AllocGlobal + Threads + Wait + Sync, G: Gate + Watch + Sync> WatchedRun<'a, T, G> {
-    // The text of the report of a graph under a plan.
-    fn planned_text(&self, graph: &Graph, planned: Planned) -> Result<Pages, JobError>
-        requires job { IsJob (job_of graph.now.graph planned.plan) }
-        requires parts { AreParts (job_of graph.now.graph planned.plan) planned.parts.items }
-        requires limits { are_in_limits self.now.options.now ≡ true }
-        ensures ok { IfOk result (λ text. text ≡ report_of
-            (mixing_of planned.plan) graph.now.graph graph.now.labels planned.plan.limit) }
-        ensures fault { IfErr result (IsFaultOf planned.plan.parts self.now.options.now) }
-        ensures first { IfErr result (λ e. e ≢ JobError.Memory →
-            IsFirstFault (job_of graph.now.graph planned.plan) self.now.options.now e) }
-    {
-        let plan = planned.plan;
-        let replicas = run_job(self.rt, graph, planned, self.options, self.gate)?;
-        let threads = usize::from(self.options.threads);
-        let text = replicas_text(self.rt, graph, &plan, &replicas, threads)?;
-        Ok(text)
-    }
-
     // The text of the report of a graph.
     fn graph_text(&self, graph: &Graph) -> Result<Pages, RunError>
         requires limits { are_in_limits self.now.options.now ≡ true }
@@ -185,7 +167,10 @@ impl<'a, T: AllocGlobal + Threads + Wait + Sync, G: Gate + Watch + Sync> Watched
         let job = self.options.job();
         let bare = job.bare_plan(graph)?;
         let planned = plan_parts(self.rt, graph, &bare)?;
-        let text = self.planned_text(graph, planned)?;
+        let plan = planned.plan;
+        let replicas = run_job(self.rt, graph, planned, self.options, self.gate)?;
+        let threads = usize::from(self.options.threads);
+        let text = replicas_text(self.rt, graph, &plan, &replicas, threads)?;
         Ok(text)
     }
 
@@ -232,27 +217,27 @@ fn write_text<W: CountedWrite>(writer: &mut W, text: &Pages) -> Result<(), RunEr
     }
 }
 
-/// Reads an edge list and writes its report. A thread for each replica of each partition makes the supersteps; where many
+/// Reads an edge list and writes its report. A thread for each replica of each partition makes the supersteps; if many
 /// vertices changed, it shares the work with others, so that together they use as many as the options say. So many make
 /// the figures, once these have ended.
 ///
 /// With a list of `counted` vertices only those are counted; the list is read after the edge list, and its lines are as
 /// there, one label in each. The report is built in memory and then written, so nothing is written unless the answer is
-/// Ok or `Write`. `Edges(Read)` is answered where a call of the reader failed (while failures can be counted) and
-/// nowhere else, `Write` exactly where one of the writer did. What is said of the input holds for plain bytes: an LF after
-/// each CR. (That no failed call of the reader is made again is written so, and no clause says it.)
-/// Several threads ask for some MiB beyond a record that is refused, and answer `Edges(Read)` if that fails.
+/// Ok or `Write`. `Edges(Read)` is answered if a call of the reader failed (while failures can be counted) and at no
+/// other time, `Write` exactly if one of the writer did. What is said of the input holds for plain bytes: an LF after
+/// each CR. (That no failed call of the reader is made again is written so, and no clause says it.) Several threads ask
+/// for some MiB beyond a record that is refused, and answer `Edges(Read)` if that fails.
 ///
-/// In this order: `Options`, before anything is read; `Edges`, `Counted` and `Plan`; where some partition has no node
-/// that reached the end `PartitionLost`, `BookFull`, `Memory` and `Starved`, the first that the nodes' ends give; then
-/// `Write`. `Memory` is also answered where the run's own growth is refused, of the report's text too. Which of the
-/// nodes' faults it is may depend on the schedule, but the report does not: it is that of the input, whatever nodes were
-/// lost or started anew.
+/// In this order: `Options`, before anything is read; `Edges`, `Counted` and `Plan`; if some partition has no node that
+/// reached the end `PartitionLost`, `BookFull`, `Memory` and `Starved`, the first that the nodes' ends give; then
+/// `Write`. `Memory` is also answered if the run's own growth is refused, of the report's text too. Which of the nodes'
+/// faults it is may depend on the schedule, but the report does not: it is that of the input, whatever nodes were lost
+/// or started anew.
 ///
-/// Memory is some two times 2^log2m bytes and 40 bytes of figures and weights a vertex and replica; where snapshots are
-/// kept, 2^log2m and 32 bytes more, and of each snapshot the accumulators where what is heard has raised a row; 4 bytes a
-/// vertex and an edge of the index that says whom an edge leads to; where there are several partitions, the rows that
-/// changed, in up to three tables, and in all of the run where a snapshot of each superstep is not kept; the graph and its
+/// Memory is some two times 2^log2m bytes and 40 bytes of figures and weights a vertex and replica; if snapshots are
+/// kept, 2^log2m and 32 bytes more, and of each snapshot the accumulators if what is heard has raised a row; 4 bytes a
+/// vertex and an edge of the index that says whom an edge leads to; if there are several partitions, the rows that
+/// changed, in up to three tables, and in all of the run if a snapshot of each superstep is not kept; the graph and its
 /// parts; and the report.
 ///
 /// For a library's user: the program calls [`run_watched`].
@@ -293,8 +278,8 @@ pub fn run<T: AllocGlobal + Threads + Wait + Sync, R: CountedRead, W: CountedWri
     run_watched(rt, state, reader, counted, writer, options, &gate)
 }
 
-/// Makes a run as [`run`] says, by a gate that is also told how it gets on: while several threads read the edge
-/// list and once it is read, once each node's first replica is made, and where a node has gone on.
+/// Makes a run as [`run`] says, by a gate that also hears how it gets on: while several threads read the edge list and
+/// once it is read, once each node's first replica is made, and each time a node has gone on.
 pub fn run_watched<
     T: AllocGlobal + Threads + Wait + Sync,
     R: CountedRead,

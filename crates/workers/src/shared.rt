@@ -12,17 +12,18 @@ pub(crate) type SharedTable = Arc<Vec<u8>>;
 
 /// Three of the tables that a node's batches shared, or fewer.
 ///
-/// Where each superstep is kept, batches are dropped two supersteps after they were posted. So as a rule nobody else has
-/// their table three supersteps later, and nobody ever has that of batches that another node posted first. The oldest such
-/// table is filled again, and a new one is made only where there is none: with a new one each superstep, runs took more
-/// memory. Others that nobody has are let go then: with two replicas a node kept idle ones, and runs took more too.
+/// If each superstep is kept, batches are dropped two supersteps after they were posted. So as a rule nobody else has
+/// their table three supersteps later, and nobody ever has that of batches that another node posted first. The oldest
+/// such table is filled again, and a new one is made only if there is none: with a new one each superstep, runs took
+/// more memory. Others that nobody has are dropped then: with two replicas a node kept idle ones, and runs took more
+/// too.
 pub(crate) struct SharedTables {
     latest: Option<SharedTable>,
     before: Option<SharedTable>,
     oldest: Option<SharedTable>,
 }
 
-// Written out, and so one call wherever one is let go.
+// Written out, and so one call wherever one is dropped.
 impl Drop for SharedTables {
     fn drop(self) {
         let SharedTables {
@@ -57,7 +58,7 @@ impl SharedTables {
         Ok(changed)
     }
 
-    // The oldest table that nobody else has. The others that nobody else has are let go.
+    // The oldest table that nobody else has. The others that nobody else has are dropped.
     fn free(&mut self) -> Option<Vec<u8>> {
         let oldest = take_free(&mut self.oldest);
         let before = take_free(&mut self.before);
@@ -65,7 +66,7 @@ impl SharedTables {
         oldest.or(before).or(latest)
     }
 
-    // Keeps a table as the latest. The oldest is let go where there are three others.
+    // Keeps a table as the latest. The oldest is dropped if there are three others.
     fn keep(&mut self, table: SharedTable) {
         let Some(latest) = self.latest.replace(table) else {
             return;
@@ -76,7 +77,7 @@ impl SharedTables {
     }
 }
 
-// Takes the table out, where nobody else has it.
+// Takes the table out, if nobody else has it.
 fn take_free(table: &mut Option<SharedTable>) -> Option<Vec<u8>> {
     match Arc::try_unwrap(table.take()?) {
         Ok(rows) => Some(rows),

@@ -71,7 +71,7 @@ fn is_kept_at(every: u32, superstep: u32) -> bool
     every != 0 && superstep % every == 0
 }
 
-// What another partition is told of the superstep, as threads share it.
+// What another partition is sent of the superstep, as threads share it.
 fn shared_batch(
     alloc: Global,
     replica: &Replica,
@@ -88,7 +88,7 @@ fn shared_batch(
 }
 
 impl<'a, R: AllocGlobal + Threads + Wait + Sync, G: Gate + Watch> Worker<'a, R, G> {
-    /// Takes over the snapshot that is kept for the replica's partition, where its superstep is `at_least` so much; and
+    /// Takes over the snapshot that is kept for the replica's partition, if its superstep is `at_least` so much; and
     /// whether there is one.
     pub fn catch_up<E: Exchange>(
         &self,
@@ -122,7 +122,7 @@ impl<'a, R: AllocGlobal + Threads + Wait + Sync, G: Gate + Watch> Worker<'a, R, 
         Ok(true)
     }
 
-    // Keeps a snapshot where its orders say so at this superstep.
+    // Keeps a snapshot if its orders say so at this superstep.
     fn keep_snapshot<E: Exchange>(
         &self,
         exchange: &mut E,
@@ -181,7 +181,7 @@ impl<'a, R: AllocGlobal + Threads + Wait + Sync, G: Gate + Watch> Worker<'a, R, 
         Ok(())
     }
 
-    // Tells every other partition of the superstep, where these are the rows that changed.
+    // Tells every other partition of the superstep; these are the rows that changed.
     fn tell_each<E: Exchange>(
         &self,
         exchange: &mut E,
@@ -236,7 +236,7 @@ impl<'a, R: AllocGlobal + Threads + Wait + Sync, G: Gate + Watch> Worker<'a, R, 
         self.tell_each(exchange, replica, &changed)
     }
 
-    // Where every superstep is kept, drops the batches that nobody needs any more.
+    // If every superstep is kept, drops the batches that nobody needs any more.
     fn drop_old<E: Exchange>(&self, exchange: &mut E, superstep: u32) -> Result<(), NodeError>
         requires caller { IsCaller (E.caller exchange.old) }
         ensures seen { Extends (E.caller exchange.old) (E.caller exchange.new) }

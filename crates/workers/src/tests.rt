@@ -151,9 +151,9 @@ const DONE: Outcome = Outcome::Done {
     stable: true,
 };
 
-/// Entries, the supersteps at which the lone node is lost and starts anew, and how it ends. One that starts anew has two
-/// entries more than one that does not: what it recalls, and the snapshot that it keeps a second time. (Seven entries are
-/// the opening, four snapshots, and two calls that let batches go.)
+/// Entries, the supersteps at which the lone node is lost and starts anew, and how it ends. One that starts anew has
+/// two entries more than one that does not: what it recalls, and the snapshot that it keeps a second time. (Seven
+/// entries are the opening, four snapshots, and two calls that drop batches.)
 static LONE: [(u32, Option<u32>, Option<u32>, Outcome); 8] = [
     (64, None, None, DONE),
     (64, Some(2), None, Outcome::Lost { superstep: 2 }),
@@ -195,7 +195,7 @@ impl Gate for CountingGate {
     }
 }
 
-/// How node 1.0 of the two edges in two partitions ends where nobody else posts.
+/// How node 1.0 of the two edges in two partitions ends if nobody else posts.
 fn unheard<R: AllocGlobal + RandomSource + Threads + Wait + Sync>(
     rt: &R,
     gate: &CountingGate,

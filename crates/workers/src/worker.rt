@@ -3,7 +3,7 @@
 use crate::node::NodeOrders;
 use ball_model::NodeId;
 
-/// A node at work: which one it is, what it is told to do, and what it works with. Its replica and its place at the board
+/// A node at work: which one it is, what it is to do, and what it works with. Its replica and its place at the board
 /// are lent to each call.
 #[derive(Clone, Copy)]
 pub struct Worker<'a, R, G> {

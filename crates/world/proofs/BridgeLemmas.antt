@@ -9,7 +9,7 @@ use Rattle.ball_model.specs.Steps.{Call, CallAnswer, answer_due, answers_due, co
 use Rattle.ball_model.specs.Held.{IsHeldBy, held_after}
 use Rattle.ball_model.proofs.JoinLemmas.{content_back}
 use Rattle.replica.specs.Seen.{IsState}
-use Rattle.replica.specs.Runs.{HasContent, Did, Made}
+use Rattle.replica.specs.Runs.{HasContent, Did, DidAll}
 use Rattle.replica.proofs.LevelLemmas.Level.{plan_is, number_is}
 use Rattle.replica.proofs.RunsLemmas.Run.{has_content, made}
 use Rattle.replica.proofs.RunsLemmas.Same.{content_is_one}
@@ -37,7 +37,7 @@ holding_here j p c v k state = record {
 -- a call of a replica that has a holding: its answer, and the holding after it
 pub stepped : (j : Job) (p : ℕ) (h : Holding) (call : Call) (answer : CallAnswer) (v w : State) → IsHeldBy j p h → Has j h v → Did j h.partition call answer v w → IsState w →
     (answer ≡ answer_due j h.partition (content_in h) call) × Has j (held_after j h call) w
-unfolding Made answers_due content_after_all
+unfolding DidAll answers_due content_after_all
 stepped j p h call answer v w held k did state =
     let run = made j h.partition (call ∷ []) (answer ∷ []) (content_in h) v w (content_here j h v k) (w, did, refl) in
     let after = content_after j h.partition (content_in h) call in (

@@ -1,11 +1,11 @@
--- The text of answers as it is put together: words behind spaces, and the names that a replica holds.
+-- The text of answers as it is put together: words after spaces, and the names that a replica holds.
 use Rattle.std.specs.Prelude.{ℕ, List, ◌∷◌, map}
 use Rattle.std.specs.List.{filter, flat_map, range_with_len}
 use Rattle.ball_model.specs.declared.names.BatchName.{BatchName}
 use Rattle.ball_model.specs.Content.{names_of}
 use Rattle.ball_model.specs.State.{State, content_of}
 
--- words, each behind a space
+-- words, each after a space
 unfoldable pub spaced : List (List ℕ) → List ℕ
 spaced words = flat_map (λ word. 32 ∷ word) words
 

@@ -43,7 +43,7 @@ replay_job o = record {
 abbrev pub replay_of : ReplayOptions → ReplaySettings
 replay_of o = record { run = settings_of (replay_job o); replicas = o.replicas }
 
--- ---- what errors are told as
+-- ---- what errors are answered as
 
 abbrev pub told_network : NetworkError → ReplayError
 told_network (unread.Edges e) = fault.Edges e
@@ -95,8 +95,8 @@ pub record IsReplayPlanned (s : ReplaySettings) (edges : List ℕ) (list : Optio
   pub read : AreRead s.run edges list network
   pub planned : HasPlan s.run.numbers network
 
--- what a refusal says of the whole input: each comes only where all checks before it passed, and a failed write only
--- of a replay that has a text
+-- what a refusal says of the whole input: each comes only if all checks before it passed, and a failed write only of a
+-- replay that has a text
 abbrev pub IsReplayRefusal : ReplaySettings → List ℕ → Option (List ℕ) → List ℕ →
     ReplayError → Type 0
 IsReplayRefusal s edges list script fault.Options = AreReplicas s.replicas → ⊥
@@ -159,7 +159,7 @@ pub record BeginsSomeReplay (s : ReplaySettings) (script : List ℕ) (old new : 
   pub replay : IsSomeReplayText s script text
   pub begun : BeginsText old new text
 
--- the options fit, and it is begun over a network: that which the edge list and the list say, where both are plain
+-- the options fit, and it is begun over a network: that which the edge list and the list say, if both are plain
 pub record IsReady (s : ReplaySettings) (edges : List ℕ) (list : Option (List ℕ))
     (script : List ℕ) (events : List Event) (world : SeenWorld) : Type 0 where
   pub replicas : AreReplicas s.replicas
@@ -177,9 +177,9 @@ pub record IsEarly (s : ReplaySettings) (edges : List ℕ) (list : Option (List 
   pub of_edges : IsPlain edges → RefusesEdges s edges e
   pub refused : ArePlain edges list → IsReplayRefusal s edges list script e
 
--- what a replay that failed says of the input, and what it leaves: nothing was written, but for want of memory and
--- for a failed write, after which a beginning of answers stands; the edge list is never unread; and a write failed
--- where that is said, and only there
+-- what a replay that failed says of the input, and what it leaves: nothing was written, but for want of memory and for
+-- a failed write, after which a beginning of answers is written; the edge list is never unread; and a write failed if
+-- that is said, and only then
 pub record FailsOfReplay (s : ReplaySettings) (edges : List ℕ) (list : Option (List ℕ))
     (script : List ℕ) (old new : Option (List ℕ)) (failed_old failed_new : ℕ) (e : ReplayError) :
     Type 0 where

@@ -30,7 +30,7 @@ takes_memory (event.Recover id c) = true
 takes_memory (event.Show id) = false
 
 -- what a call of `apply` promises of its answer: a refusal changes nothing; the answer is that of the definition and
--- the world becomes the one that the definition makes, except where memory is refused; and that is told where nothing
+-- the world becomes the one that the definition makes, unless memory is refused; and that is answered only if nothing
 -- else is refused
 pub record Applies (j : Job) (e : Event) (r : Result Answer WorldError)
     (v u : SeenWorld) : Type 0 where

@@ -10,12 +10,12 @@ use Rattle.ball_model.specs.Sections.{longer}
 abbrev pub most : ℕ
 most = 1000000000
 
--- what stands before the first such byte, and what follows it
+-- what is before the first such byte, and what follows it
 unfoldable pub cut_of : ℕ → List ℕ → Option (List ℕ × List ℕ)
 cut_of d [] = None
 cut_of d (c ∷ rest) = if c == d then Some ([], rest) else longer c (cut_of d rest)
 
--- the events with that of one line more, where the line is not skipped
+-- the events with that of one line more, if the line is not skipped
 abbrev pub added : List Event → List ℕ → Option (List Event)
 added es line =
     if is_record line

@@ -41,7 +41,7 @@ pub record SeenWorld : Type 0 where
   pub messages : List SeenMessage
   pub copies : List State
 
--- a node, where there is one
+-- a node, if there is one
 abbrev pub seen_at : SeenWorld → NodeId → Option SeenNode
 seen_at v id = slice_get (slice_index_or v.nodes id.part []) id.replica
 

@@ -16,8 +16,8 @@ pub record BeginsText (old new : Option (List ℕ)) (text : List ℕ) : Type 0 w
   pub split : text ≡ front ++ rest
   pub appended : Appends old new front
 
--- a writer of these contents was given a beginning of the text; a call of it failed where the fault is of a write,
--- and only there
+-- a writer of these contents was given a beginning of the text; a call of it failed if the fault is of a write, and
+-- only then
 pub record Stopped {W : Type 0} (contents : W → Option (List ℕ)) (failed : W → ℕ) (old new : W)
     (text : List ℕ) (e : TellError) : Type 0 where
   pub begun : BeginsText (contents old) (contents new) text

@@ -25,7 +25,7 @@ use std::alloc::AllocError;
 // How many supersteps a replica may hold batches of.
 const WINDOW: u32 = 4;
 
-// Adds words, each behind a space.
+// Adds words, each after a space.
 fn put_spaced(line: &mut Vec<u8>, words: &[&[u8]]) -> Result<(), AllocError>
     ensures { OnOk result (line.new.items ≡
         line.old.items ++ spaced (map (λ word. word.now) words.now)) }
@@ -211,7 +211,7 @@ fn put_pair(line: &mut Vec<u8>, first: u32, between: u8, second: u16) -> Result<
     Ok(())
 }
 
-// Adds the names of the batches of a superstep that a replica holds, each behind a space.
+// Adds the names of the batches of a superstep that a replica holds, each after a space.
 fn put_names_at(line: &mut Vec<u8>, replica: &Replica, superstep: u32) -> Result<(), AllocError>
     ensures { OnOk result (line.new.items ≡ line.old.items ++
         spaced (map held_word (names_at replica.now superstep replica.now.part.plan.parts))) }
@@ -230,7 +230,7 @@ fn put_names_at(line: &mut Vec<u8>, replica: &Replica, superstep: u32) -> Result
     Ok(())
 }
 
-// Adds all names that a replica holds, each behind a space.
+// Adds all names that a replica holds, each after a space.
 fn put_names(line: &mut Vec<u8>, replica: &Replica) -> Result<(), AllocError>
     ensures { OnOk result (line.new.items ≡
         line.old.items ++ spaced (map held_word (names_in replica.now))) }

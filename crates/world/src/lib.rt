@@ -21,8 +21,8 @@
 //! [`replay::replay`] goes from an edge list and a script, a command on each line, to the text of the answers;
 //! [`replay::replay_watched`] calls a [`edgelist::Watch`] as it gets on.
 //!
-//! An event is refused ([`WorldError`]) where there is no such node, target, message or copy, or where memory is
-//! refused; then the world is as it was.
+//! An event is refused ([`WorldError`]) if there is no such node, target, message or copy, or if memory is refused;
+//! then the world is as it was.
 #![tactic(auto)]
 
 pub mod answer;

@@ -103,7 +103,7 @@ impl Node {
     }
 
     /// Goes back to what the node kept, or to the start. The error is that memory was refused, and changes nothing: the
-    /// replica there was goes only where the other is made.
+    /// replica there was goes only if the other is made.
     pub fn restart(&mut self, alloc: Global) -> Result<Answer, AllocError>
         ensures turned { (j : Job) →
             IfOk result (λ a. Turns j (restarted_turn j) a self.old self.new) }
@@ -169,7 +169,7 @@ fn keepable(replica: &Replica)
     ensures { IsKeepable replica.now }
 {
     replica.limits();
-    let _figures = replica.tallies();
+    let _limits = replica.tallies();
 }
 
 // The checkpoint of a replica. The error is that memory was refused.
@@ -223,7 +223,7 @@ fn want_of(error: KeepError) -> AllocError
     }
 }
 
-/// What a world answers where a replica said this of a batch.
+/// What a world answers if a replica said this of a batch.
 pub fn answer_to_take(taken: Result<Taken, TakeError>) -> Answer
     ensures { result ≡ taken_answer taken }
 {
@@ -233,7 +233,7 @@ pub fn answer_to_take(taken: Result<Taken, TakeError>) -> Answer
     }
 }
 
-/// What a world answers where a replica said this of a close.
+/// What a world answers if a replica said this of a close.
 pub fn answer_to_close(closed: Result<u32, CloseError>) -> Answer
     ensures { result ≡ closed_answer closed }
 {
@@ -243,7 +243,7 @@ pub fn answer_to_close(closed: Result<u32, CloseError>) -> Answer
     }
 }
 
-// What a world answers where a replica refused to merge. The error is that memory was refused.
+// What a world answers if a replica refused to merge. The error is that memory was refused.
 fn answer_to_refusal(error: MergeError) -> Result<Answer, AllocError>
     ensures { IfOk result (λ a. (a ≡ answer.NotMerged error) × (error ≢ MergeError.Memory)) }
 {

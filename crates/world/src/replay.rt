@@ -37,7 +37,7 @@ pub struct ReplayOptions {
     pub replicas: u8,
     /// How the estimates of counters are made.
     pub estimate: Estimate,
-    /// What stands between the two fields of a line of the edge list.
+    /// What is between the two fields of a line of the edge list.
     pub delimiter: Delimiter,
 }
 
@@ -77,10 +77,10 @@ pub enum ReplayError {
     /// There is no such plan.
     #[error("{0}")]
     Plan(PlanError),
-    /// Memory was refused. The answers of earlier events may stand.
+    /// Memory was refused. The answers of earlier events may be written.
     #[error("out of memory")]
     Memory,
-    /// A write failed. The answers of earlier events may stand.
+    /// A write failed. The answers of earlier events may be written.
     #[error("the output cannot be written")]
     Write,
 }
@@ -200,11 +200,11 @@ impl<'a, V: Watch> WatchedReplay<'a, V> {
 /// and lines that begin with `#` are skipped.
 ///
 /// The errors come in the order of [`ReplayError`]; options and the whole script are checked before anything is read or
-/// written, whatever the edge list is, and without memory. So is the plan, before memory is asked for that is told as
-/// `Memory`. After `Memory` and `Write` a beginning of the answers stands, after every other error nothing. `Edges(Read)`
-/// is not answered, and `Write` exactly where a call of the writer failed. What is said of the edge list holds for plain
-/// bytes: an LF after each CR. Of other bytes the answers are those of a job of these options over some network, from its
-/// start.
+/// written, whatever the edge list is, and without memory. So is the plan, before memory is asked for whose refusal is
+/// answered as `Memory`. After `Memory` and `Write` a beginning of the answers is written, after every other error
+/// nothing. `Edges(Read)` is not answered, and `Write` exactly if a call of the writer failed. What is said of the edge
+/// list holds for plain bytes: an LF after each CR. Of other bytes the answers are those of a job of these options over
+/// some network, from its start.
 ///
 /// Memory is the graph, a replica for each node, 32 bytes a command, and what the events keep: the bytes of each
 /// message, a replica's rows for each copy and checkpoint, and the longest line of the answers.

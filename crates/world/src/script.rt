@@ -18,7 +18,7 @@ use std::alloc::{AllocError, Global};
 /// Numbers of scripts are below it: they have at most 9 digits.
 const MOST: u64 = 1_000_000_000;
 
-/// What stands before the first such byte, and what follows it.
+/// What is before the first such byte, and what follows it.
 pub fn cut(byte: u8, text: &[u8]) -> Option<(&[u8], &[u8])>
     ensures { option_map (λ s. (s.0.now, s.1.now)) result ≡ cut_of byte text.now }
 {
@@ -30,7 +30,7 @@ pub fn cut(byte: u8, text: &[u8]) -> Option<(&[u8], &[u8])>
     None
 }
 
-// The value of digits, or `MOST` where it is not below that.
+// The value of digits, or `MOST` if it is not below that.
 fn value(word: &[u8]) -> u64
     ensures { result ≡ min (value_from 0 word.now) most }
 {
@@ -155,7 +155,7 @@ fn two_command(verb: &[u8], first: &[u8], second: &[u8]) -> Option<Event>
     }
 }
 
-// The event that a line commands. Between its words stands one space.
+// The event that a line commands. Between its words is one space.
 fn command(line: &[u8]) -> Option<Event>
     ensures { result ≡ command_of (fields 32 line.now) }
 {
@@ -223,7 +223,7 @@ pub(crate) fn first_fault(script: &[u8]) -> Option<u64>
     None
 }
 
-// Adds the event of a line behind the others, where it is a command.
+// Adds the event of a line after the others, if it is a command.
 fn add_line(events: &mut Vec<Event>, line: &[u8]) -> Result<(), AllocError>
     ensures { OnOk result (
         IfSome (added events.old.items line.now) (λ all. all ≡ events.new.items)) }

@@ -131,7 +131,7 @@ pub fn tell_replica<W: CountedWrite>(
     tell_vertices(replica, line, writer)
 }
 
-// Tells a node of a world, where there is one.
+// Tells a node of a world, if there is one.
 fn tell_node<W: CountedWrite>(
     world: &World,
     id: NodeId,
@@ -203,7 +203,7 @@ fn node_of(event: Event) -> NodeId
     }
 }
 
-// A watch is told where the node of an event went on.
+// A watch is called if the node of an event went on.
 fn show_close<V: Watch>(
     world: &World,
     event: Event,
@@ -221,7 +221,7 @@ fn show_close<V: Watch>(
 }
 
 impl<'a, V: Watch> WatchedReplay<'a, V> {
-    // An event happens, and its answer is told.
+    // An event happens, and its answer is written.
     fn tell_event<W: CountedWrite>(
         &self,
         world: &mut World,
@@ -245,7 +245,7 @@ impl<'a, V: Watch> WatchedReplay<'a, V> {
         tell_outcome(outcome, line, writer)
     }
 
-    /// Events happen one after the other, and the answer of each is told. A watch is called where a node goes on.
+    /// Events happen one after the other, and the answer of each is written. A watch is called when a node goes on.
     pub(crate) fn tell_events<W: CountedWrite>(
         &self,
         world: &mut World,

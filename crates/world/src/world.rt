@@ -65,7 +65,7 @@ impl World {
         })
     }
 
-    /// The replica of a node, where there is one.
+    /// The replica of a node, if there is one.
     pub fn node(&self, id: NodeId) -> Option<&Replica>
         ensures value { option_map (λ r. r.now) result ≡
             option_map (λ n. n.replica) (seen_at self.now id) }
@@ -82,11 +82,11 @@ impl World {
 
     /// What happens is done, and answered.
     ///
-    /// In this order it is refused: [`NoNode`](WorldError::NoNode) where there is no such node,
-    /// [`NoTarget`](WorldError::NoTarget) where a target is no partition or the node's own,
-    /// [`NoMessage`](WorldError::NoMessage) and [`NoCopy`](WorldError::NoCopy) where none has that number, and
-    /// [`Memory`](WorldError::Memory) where the memory is refused that the event takes; a refusal changes nothing, and
-    /// the event can be given again. A close and a look take no memory.
+    /// In this order it is refused: [`NoNode`](WorldError::NoNode) if there is no such node,
+    /// [`NoTarget`](WorldError::NoTarget) if a target is no partition or the node's own,
+    /// [`NoMessage`](WorldError::NoMessage) and [`NoCopy`](WorldError::NoCopy) if none has that number, and
+    /// [`Memory`](WorldError::Memory) if the memory is refused that the event takes; a refusal changes nothing, and the
+    /// event can be given again. A close and a look take no memory.
     pub fn apply(&mut self, alloc: Global, event: Event) -> Result<Answer, WorldError>
         ensures answer { (j : Job) (w : Defined) → Shows j w self.old →
             result ≢ Err refusal.Memory → result ≡ answer_of j w event }
@@ -264,7 +264,7 @@ impl World {
     }
 }
 
-// The replica of a node of a partition, where there is one.
+// The replica of a node of a partition, if there is one.
 fn replica_at(nodes: &[Node], replica: u8) -> Option<&Replica>
     ensures { option_map (λ r. r.now) result ≡
         option_map (λ n. n.replica) (slice_get nodes.now replica) }

@@ -5,7 +5,7 @@ ghost use Rattle.std.specs.Prelude.{◌<◌};
 use super::*;
 
 // Reads bytes, writes what was read, and tells how often they were read as a batch: once, or not at all. A refusal for
-// anything but memory is no fault; for memory, or where the batch has other bytes, there is no answer.
+// anything but memory is no fault; for memory, or if the batch has other bytes, there is no answer.
 fn see(alloc: Global, plan: &Plan, bytes: &[u8]) -> Option<u32> {
     match is_kept(alloc, plan, bytes) {
         Ok(true) => Some(1),
@@ -67,7 +67,7 @@ fn scattered(state: &mut u64) -> [u8; 74] {
     bytes
 }
 
-// Random bytes, behind the first six of a batch.
+// Random bytes, after the first six of a batch.
 fn random(state: &mut u64) -> [u8; 74] {
     let mut bytes = BYTES;
     for byte in bytes[6..].iter_mut() {

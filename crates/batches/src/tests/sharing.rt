@@ -184,7 +184,8 @@ fn have_rows(alloc: Global, like: &mut Batch, both: &mut (Batch, Batch)) -> Resu
     )
 }
 
-/// The same of two batches over one table.
+/// Whether two batches over one table have their rows and the first is written as one with rows of its own, and both
+/// have theirs once the first has a row more.
 fn pair_has_rows(alloc: Global, like: &mut Batch) -> Result<bool, AllocError>
     requires plan { (like.old.plan.log2m ≡ 4) × (like.old.plan.parts ≡ 2) × (like.old.plan.vertices ≡ 5) }
     requires name { (like.old.name.source ≡ 0) × (like.old.changed ≡ 3) }
@@ -194,7 +195,8 @@ fn pair_has_rows(alloc: Global, like: &mut Batch) -> Result<bool, AllocError>
     have_rows(alloc, like, &mut both)
 }
 
-/// The same, for a batch with no rows.
+/// Whether two batches over one table that are made like one with no rows have their rows, before the first has a row
+/// more and after.
 fn is_shared(alloc: Global) -> Result<bool, Fail> {
     let mut like = none(alloc)?;
     Ok(pair_has_rows(alloc, &mut like)?)

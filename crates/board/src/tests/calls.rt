@@ -5,11 +5,11 @@ ghost use Rattle.board.specs.declared.seat.TheConstants.{SHARE};
 
 use super::*;
 
-/// Calls one after the other, about the first batch, behind a post of it that is New. All come behind that, or all but
+/// Calls one after the other, about the first batch, after a post of it that is New. All come after that, or all but
 /// the first one to three. The sheet that they are noted on asks for memory at its entries 0, 4 and 8. Entry 0 is the
-/// post that is New. Without three of these entry 4 is the keep that is Behind; without two, entries 4 and 8 are the keep
-/// that is New and the post that is Old; without one the fetch and the drop; with all the post that is Known and the
-/// recall.
+/// post that is New. Without three of these entry 4 is the keep that is Behind; without two, entries 4 and 8 are the
+/// keep that is New and the post that is Old; without one the fetch and the drop; with all the post that is Known and
+/// the recall.
 static STEPS: [Step; 12] = [
     Step::Post(Posted::Known),
     Step::Post(Posted::Known),
@@ -25,7 +25,7 @@ static STEPS: [Step; 12] = [
     Step::Post(Posted::Old),
 ];
 
-/// Whether a call is answered so; where memory is refused, whether no entry is added, and the call that is made again is
+/// Whether a call is answered so; if memory is refused, whether no entry is added, and the call that is made again is
 /// answered.
 fn is_answered_again<R: Wait>(rt: &R, user: &mut User<'_>, step: Step) -> bool
     ensures { user.new ≡ user.old }
@@ -64,14 +64,14 @@ fn goes_on_after_refusals<R: Wait>(rt: &R, user: &mut User<'_>, without: usize) 
     right && user.length() == (steps.len() as u64)
 }
 
-/// Whether it is so at a new board: None where memory was refused before the first call.
+/// Whether it is so at a new board: None if memory was refused before the first call.
 fn refusals<R: AllocGlobal + RandomSource + Wait>(rt: &R, without: usize) -> Option<bool> {
     let (scene, seat) = Scene::open(rt, 16)?;
     let mut user = User { at: &scene, seat };
     Some(goes_on_after_refusals(rt, &mut user, without))
 }
 
-/// Each call is answered, at once or when it is made again: a run of this test can refuse any one growth. Where memory is
+/// Each call is answered, at once or when it is made again: a run of this test can refuse any one growth. If memory is
 /// refused before the first call, all is done again.
 #[test]
 fn calls_where_memory_is_refused(rt: HostRuntime) {
@@ -92,7 +92,7 @@ fn board_of_three_thousand_entries(rt: HostRuntime) -> Result<(), Fail> {
     Ok(())
 }
 
-/// What a call about a batch is answered behind so many others, where so many entries were free before them all, and as
+/// What a call about a batch is answered after so many others, if so many entries were free before them all, and as
 /// many batches were posted, or four.
 fn wanted(step: Step, at: usize, behind: usize, free: usize) -> Result<bool, BoardError> {
     match step {
@@ -102,7 +102,7 @@ fn wanted(step: Step, at: usize, behind: usize, free: usize) -> Result<bool, Boa
     }
 }
 
-/// Whether four calls behind so many others are answered so.
+/// Whether four calls after so many others are answered so.
 fn fills<R: Wait>(rt: &R, user: &mut User<'_>, step: Step, behind: usize, free: usize) -> bool
     requires { behind ≤ 100 }
     ensures { user.new ≡ user.old }
@@ -127,7 +127,7 @@ fn both_fill<R: Wait>(rt: &R, first: &mut User<'_>, second: &mut User<'_>, free:
     new && known && found && again && full && lengths
 }
 
-/// Whether a new board of so many entries fills up so: None where memory was refused.
+/// Whether a new board of so many entries fills up so: None if memory was refused.
 fn fills_up<R: AllocGlobal + RandomSource + Wait>(rt: &R, entries: u32) -> Option<bool>
     requires { (LEAST_ENTRIES ≤ entries) × (entries ≤ MOST_ENTRIES) }
 {

@@ -1,9 +1,9 @@
-//! Boards that are opened where memory is refused. A run of this test can refuse any one growth: then a board that is not
-//! opened is opened when that is done again.
+//! Boards that are opened while memory is refused. A run of this test can refuse any one growth: then a board that is
+//! not opened is opened when that is done again.
 
 use super::*;
 
-/// The length of a new board: None where memory is refused.
+/// The length of a new board: None if memory is refused.
 fn opened(rt: &HostRuntime) -> Option<u64> {
     let Setting { graph, plan } = two_edges(rt, 5)?;
     let (board, mut seat) = Board::open(rt.alloc(), &graph, &plan, 8).ok()?;

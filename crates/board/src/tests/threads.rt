@@ -68,7 +68,7 @@ fn crowd<R: Threads + Wait + Sync>(rt: &R, mut user: User<'_>, others: u8, floor
 }
 
 /// Whether so many threads and one more at a new board do right: each name and the snapshot is New once, and each call
-/// that adds an entry is one. None where memory was refused.
+/// that adds an entry is one. None if memory was refused.
 fn is_right_crowd<R>(rt: &R, others: u8, floor: u32) -> Option<bool>
 where
     R: AllocGlobal + RandomSource + Threads + Wait + Sync,
@@ -81,7 +81,7 @@ where
     Some(done.right && once && last.length() == done.entries.wrapping_add(1))
 }
 
-/// Nothing is dropped, so each finds all that stands.
+/// Nothing is dropped, so each finds all that was posted.
 #[test]
 fn two_threads_post(rt: HostRuntime) {
     assert!(rt; is_right_crowd(&rt, 1, 0) == Some(true));

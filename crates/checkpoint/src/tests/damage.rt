@@ -7,10 +7,11 @@ use crate::KeepError;
 use edgelist::Part;
 use std::sync::Arc;
 
-/// By hand, the refusals of the checkpoint of the two edges where one bit is turned, from the first of a row up to the
-/// second. Bits are counted from the lowest of each byte. With 144 begins the superstep, which is 2: with 3 the digest's
-/// bytes 0x24 and 0xf3 are read as the number of early batches, and with 0 the digest is looked for 32 bytes too early; up
-/// to 4096 there are too few bytes for others. With 2448 begins the number of early batches, which is none.
+/// By hand, the refusals of the checkpoint of the two edges when one bit is turned, from the first of a row up to the
+/// second. Bits are counted from the lowest of each byte. With 144 begins the superstep, which is 2: with 3 the
+/// digest's bytes 0x24 and 0xf3 are read as the number of early batches, and with 0 the digest is looked for 32 bytes
+/// too early; up to 4096 there are too few bytes for others. With 2448 begins the number of early batches, which is
+/// none.
 static REFUSALS: [(usize, usize, KeepError); 14] = [
     (0, 32, KeepError::Magic),
     (32, 40, KeepError::Version),
@@ -35,7 +36,7 @@ fn turn(bytes: &mut [u8], bit: usize) {
     }
 }
 
-/// The refusal where a bit is turned, and turned back.
+/// The refusal when a bit is turned, and turned back.
 fn turned(rt: &HostRuntime, part: &Arc<Part>, bytes: &mut [u8], bit: usize) -> Option<KeepError> {
     turn(bytes, bit);
     let told = fault(rt, part, bytes);
@@ -70,7 +71,7 @@ fn scatter(bytes: &mut [u8], state: &mut u64) {
     }
 }
 
-/// Makes all bits behind the fixed fields random.
+/// Makes all bits after the fixed fields random.
 fn shake(bytes: &mut [u8], state: &mut u64) {
     for bit in 432..2720 {
         if next(state) % 2 == 0 {

@@ -9,7 +9,7 @@ use edgelist::Part;
 use replica::Replica;
 use std::sync::Arc;
 
-/// Whether a failed write is told, and fewer bytes went out than the replica has: too few to be read.
+/// Whether a failed write is answered, and fewer bytes went out than the replica has: too few to be read.
 fn is_cut(rt: &HostRuntime, part: &Arc<Part>, replica: &Replica, room: usize, good: u64) -> bool {
     let mut bytes = [0; 5000];
     let (room, _) = bytes.split_at_mut(room.min(5000));
@@ -20,7 +20,7 @@ fn is_cut(rt: &HostRuntime, part: &Arc<Part>, replica: &Replica, room: usize, go
         && fault(rt, part, text) == Some(KeepError::Short)
 }
 
-/// Whether a replica is cut by each of so many calls of a writer that fails, and by none behind them.
+/// Whether a replica is cut by each of so many calls of a writer that fails, and by none after them.
 fn calls(rt: &HostRuntime, part: &Arc<Part>, replica: &Replica, calls: u64) -> bool {
     let mut all = true;
     for good in 0..8 {

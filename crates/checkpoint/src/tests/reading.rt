@@ -90,8 +90,8 @@ fn is_sipped(
     }
 }
 
-/// Whether so many calls are made by so many bytes, each that fails is told, and the replica that comes writes the second
-/// bytes.
+/// Whether so many calls are made by so many bytes, each that fails is answered, and the replica that comes writes the
+/// second bytes.
 fn fails(
     rt: &HostRuntime,
     part: &Arc<Part>,
@@ -132,7 +132,7 @@ fn is_read(rt: &HostRuntime, part: &Arc<Part>, first: &[u8], second: &[u8], call
         && fails(rt, part, first, second, 1, first.len() as u64 + 1)
 }
 
-/// Whether a byte more is told.
+/// Whether a byte more is refused.
 fn trails(rt: &HostRuntime, part: &Arc<Part>) -> bool {
     let mut more = [0; 341];
     more[..340].copy_from_slice(&TWO_EDGES);
@@ -149,7 +149,7 @@ fn one_early() -> [u8; 305] {
     bytes
 }
 
-/// Whether that is read and written again, and each beginning of it is too short, and a byte more is told.
+/// Whether that is read and written again, and each beginning of it is too short, and a byte more is refused.
 fn one_early_is_read(rt: &HostRuntime, part: &Arc<Part>) -> bool {
     let bytes = one_early();
     let mut more = [0; 306];
@@ -166,7 +166,7 @@ fn seal(bytes: &mut [u8]) {
     }
 }
 
-/// Another byte stands at a place, which is given back.
+/// Another byte is put at a place, and the one that was there is given back.
 fn swap(bytes: &mut [u8], at: usize, byte: u8) -> u8 {
     match bytes.get_mut(at) {
         Some(place) => mem::replace(place, byte),
@@ -220,7 +220,7 @@ static EARLY: [(usize, u8); 11] = [
     (290, 1),
 ];
 
-/// Whether all that is read of the two edges, in both versions, is told.
+/// Whether the two edges are read as they should be, in both versions.
 pub(super) fn edges_are_read(rt: &HostRuntime, part: &Arc<Part>) -> bool {
     let mut bytes = TWO_EDGES;
     is_read(rt, part, &FIRST, &TWO_EDGES, 4)

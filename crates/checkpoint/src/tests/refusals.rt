@@ -1,6 +1,6 @@
-//! Refused memory. A run of these tests by `rt try --test --fail-alloc N` refuses any one growth of memory: then that is
-//! told, and the same bytes are read when they are read again. A text that is cut is told as such. Writing asks for no
-//! memory, so it is never refused.
+//! Refused memory. A run of these tests by `rt try --test --fail-alloc N` refuses any one growth of memory: then that
+//! is the answer, and the same bytes are read when they are read again. A text that is cut is refused as such. Writing
+//! asks for no memory, so it is never refused.
 
 use super::reading::{fault, is_written};
 use super::worked::{FIRST, TWO_EARLY, TWO_EDGES};
@@ -24,19 +24,19 @@ fn is_short(rt: &HostRuntime, part: &Arc<Part>, bytes: &[u8]) -> bool {
     fault(rt, part, text) == Some(KeepError::Short)
 }
 
-/// Whether those of both checkpoints are. None where memory is refused outside of that.
+/// Whether those of both checkpoints are. None if memory is refused outside of that.
 fn both_are_short(rt: &HostRuntime) -> Option<bool> {
     Some(is_short(rt, &half(rt)?, &TWO_EARLY) && is_short(rt, &whole(rt)?, &FIRST))
 }
 
-/// Both checkpoints: that with early batches, and that of the two edges in version 1. None where memory is refused outside
+/// Both checkpoints: that with early batches, and that of the two edges in version 1. None if memory is refused outside
 /// of that.
 fn both_again(rt: &HostRuntime) -> Option<bool> {
     let early = is_read_again(rt, &half(rt)?, &TWO_EARLY, &TWO_EARLY);
     Some(early && is_read_again(rt, &whole(rt)?, &FIRST, &TWO_EDGES))
 }
 
-// Where memory is refused before there are bytes, all is done again, and nothing is refused.
+// If memory is refused before there are bytes, all is done again, and nothing is refused.
 #[test]
 fn calls_where_memory_is_refused(rt: HostRuntime) {
     assert!(rt; both_again(&rt).or(both_again(&rt)) == Some(true));
@@ -47,7 +47,7 @@ fn cut_texts_where_memory_is_refused(rt: HostRuntime) {
     assert!(rt; both_are_short(&rt).or(both_are_short(&rt)) == Some(true));
 }
 
-// Where memory is refused there is no replica. Where there is one, the bytes are written.
+// If memory is refused there is no replica. If there is one, the bytes are written.
 #[test]
 fn writing_asks_for_no_memory(rt: HostRuntime) {
     assert!(rt; edges_are_written(&rt).or(edges_are_written(&rt)) == Some(true));

@@ -52,7 +52,7 @@ pub(super) fn written(
     (answer, length.saturating_sub(sips.room.len()))
 }
 
-/// Whether a replica writes these bytes, as many as are told before, by so many a call.
+/// Whether a replica writes these bytes, as many as its length says, by so many a call.
 pub(super) fn writes(replica: &Replica, wanted: &[u8], most: usize) -> bool {
     let mut bytes = [0; 400];
     let out = written(replica, &mut bytes, most, u64::MAX);
@@ -108,9 +108,8 @@ fn takes(rt: &HostRuntime, replica: &mut Replica, bytes: &[u8]) -> bool {
     }
 }
 
-/// Whether a replica writes those bytes, once it has taken a batch of superstep 3 and one of superstep 2. Both tell of one
-/// changed vertex and have no row: what no partition tells. None where memory for
-/// one is refused.
+/// Whether a replica writes those bytes, once it has taken a batch of superstep 3 and one of superstep 2. Both tell of
+/// one changed vertex and have no row: what no partition tells. None if memory for one is refused.
 fn writes_early(rt: &HostRuntime, replica: &mut Replica) -> Option<bool> {
     let later = takes(rt, replica, &TWO_EARLY[281..335]);
     if later && takes(rt, replica, &TWO_EARLY[219..273]) {

@@ -1,7 +1,7 @@
 //! Lists of sources that several threads make, round by round.
 
-ghost use Rattle.std.specs.Prelude.{◌^◌, ◌<◌, IfOk, length};
-ghost use Rattle.edgelist.specs.Edges.{AllBelow};
+ghost use Rattle.std.specs.Prelude.{◌≡◌, ◌^◌, ◌<◌, IfOk, length};
+ghost use Rattle.edgelist.specs.Edges.{AllBelow, edge_of};
 
 use crate::Preds;
 use crate::codes::{Shares, lists_of_by};
@@ -9,6 +9,13 @@ use crate::edge::Edge;
 use crate::lists::PredLists;
 use std::alloc::{AllocError, AllocGlobal, Global};
 use std::thread::Threads;
+
+// The edge to a target from a source.
+fn edge(target: u32, source: u32) -> Edge
+    ensures { result ≡ edge_of target source }
+{
+    Edge { target, source }
+}
 
 // Edges in no order, one of them twice, between vertices below 6.
 fn edges(alloc: Global) -> Result<Vec<Edge>, AllocError>
@@ -18,42 +25,15 @@ fn edges(alloc: Global) -> Result<Vec<Edge>, AllocError>
     let edges = Vec::from_array(
         alloc,
         [
-            Edge {
-                target: 2,
-                source: 4,
-            },
-            Edge {
-                target: 0,
-                source: 2,
-            },
-            Edge {
-                target: 2,
-                source: 1,
-            },
-            Edge {
-                target: 5,
-                source: 0,
-            },
-            Edge {
-                target: 2,
-                source: 0,
-            },
-            Edge {
-                target: 0,
-                source: 1,
-            },
-            Edge {
-                target: 3,
-                source: 5,
-            },
-            Edge {
-                target: 2,
-                source: 1,
-            },
-            Edge {
-                target: 2,
-                source: 2,
-            },
+            edge(2, 4),
+            edge(0, 2),
+            edge(2, 1),
+            edge(5, 0),
+            edge(2, 0),
+            edge(0, 1),
+            edge(3, 5),
+            edge(2, 1),
+            edge(2, 2),
         ],
     )?;
     Ok(edges)
@@ -90,7 +70,7 @@ fn are_lists(lists: &PredLists) -> bool {
     right
 }
 
-// Whether the lists are told, where the work is dealt out so.
+// Whether these lists are made, if the work is dealt out so.
 fn are_told<R: AllocGlobal + Threads + Sync>(rt: &R, shares: Shares) -> bool {
     let Ok(edges) = edges(rt.alloc()) else {
         return false;
@@ -106,7 +86,7 @@ static THREADS: [usize; 4] = [1, 2, 3, 8];
 // Target 2 has more edges than the first rounds take.
 static ROUNDS: [u32; 5] = [0, 1, 2, 3, 100];
 
-// Whether they are told by so many threads in each way.
+// Whether they are made by so many threads in each way.
 fn are_told_by<R: AllocGlobal + Threads + Sync>(rt: &R, threads: usize) -> bool {
     let mut right = true;
     for round in &ROUNDS {

@@ -2,7 +2,7 @@
 
 use super::*;
 
-// Whether just the vertices of these digits are counted, of ten at most, and are told to be so many.
+// Whether just the vertices of these digits are counted, of ten at most, and the graph says that they are so many.
 pub(super) fn counts(graph: &Graph, wanted: &[u8]) -> bool {
     let mut right = graph.counted_count() as usize == wanted.len();
     for v in 0..graph.vertices() {
@@ -11,7 +11,7 @@ pub(super) fn counts(graph: &Graph, wanted: &[u8]) -> bool {
     right
 }
 
-// A list, what stands between its fields, what it is answered, and the digits of the vertices that are then counted.
+// A list, what is between its fields, what it is answered, and the digits of the vertices that are then counted.
 type List<'a> = (&'a [u8], Delimiter, Result<(), CountedError>, &'a [u8]);
 
 // Whether these lists are answered so, one after another.
@@ -24,7 +24,7 @@ fn are_answered(alloc: Global, graph: &mut Graph, lists: &[List<'_>]) -> bool {
     right
 }
 
-// The same on the graph of an edge list with tabs.
+// Whether these lists are answered so on the graph of an edge list with tabs.
 fn answered(rt: &HostRuntime, text: &[u8], lists: &[List<'_>]) -> bool {
     match tabs(rt, text) {
         Ok(mut graph) => are_answered(rt.alloc(), &mut graph, lists),
@@ -79,14 +79,14 @@ fn jobs(graph: &Graph) -> Result<[[u8; 32]; 2], PlanError> {
     Ok([raw.job(), corrected.job()])
 }
 
-// The same, each made for a plan without one.
+// Both job digests, each made for a plan without one.
 fn digests(graph: &Graph) -> Result<[[u8; 32]; 2], PlanError> {
     let raw = graph.bare_plan(Estimate::Raw, 4, 0, 2, 4096)?;
     let corrected = graph.bare_plan(Estimate::Corrected, 4, 0, 2, 4096)?;
     Ok([graph.digest(&raw), graph.digest(&corrected)])
 }
 
-// The same of large plans.
+// Both job digests, each made for a large plan.
 fn large_digests(graph: &Graph) -> Result<[[u8; 32]; 2], PlanError> {
     let raw = graph.large_plan(Estimate::Raw, 4, 0, 2, 4096)?;
     let corrected = graph.large_plan(Estimate::Corrected, 4, 0, 2, 4096)?;
@@ -126,8 +126,9 @@ const TWO_EDGES_DIGESTS: [[u8; 32]; 2] = [
     ],
 ];
 
-/// Those where just the first vertex is counted: of the 55 bytes 48424a32 04 0000000000000000 0002 00001000 00000003
-/// 0000000000000002 00000000 00000001 00000001 00000002 00000001 00000000, and of those with 48424332 at the front.
+/// The job digests if just the first vertex is counted: of the 55 bytes 48424a32 04 0000000000000000 0002 00001000
+/// 00000003 0000000000000002 00000000 00000001 00000001 00000002 00000001 00000000, and of those with 48424332 at the
+/// front.
 const FIRST_DIGESTS: [[u8; 32]; 2] = [
     [
         0x4a, 0xd0, 0xa0, 0xb2, 0x4d, 0xcc, 0xb6, 0x39, 0x31, 0x4c, 0x0e, 0xca, 0x5b, 0x2c, 0xbd,
@@ -141,7 +142,7 @@ const FIRST_DIGESTS: [[u8; 32]; 2] = [
     ],
 ];
 
-// An edge that stands twice is one, and a list of all vertices is none.
+// An edge that is there twice is one, and a list of all vertices is none.
 static JOBS: [Jobs<'static>; 3] = [
     (b"a\tb\nb\tc\na\tb\n", None, TWO_EDGES_DIGESTS),
     (TWO_EDGES, Some(b"a\nb\nc\na"), TWO_EDGES_DIGESTS),

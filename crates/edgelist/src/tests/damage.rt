@@ -40,7 +40,7 @@ const NINE: EdgeLimits = EdgeLimits {
     edges: 9,
 };
 
-// Whether bytes are told alike where they are read at once and a byte at a time.
+// Whether bytes are read alike at once and a byte at a time.
 fn is_same(rt: &HostRuntime, bytes: &[u8]) -> bool {
     let slow = Stepping {
         bytes,
@@ -120,7 +120,7 @@ fn is_answered(alloc: Global, graph: &mut Graph, list: &[u8]) -> bool {
 // A list of counted vertices of the two edges.
 const LIST: [u8; 14] = *b"# x\r\nb\nc\n\nb\r\na";
 
-// The same of a thousand of these lists with some bytes changed, and of a thousand of up to 14 random bytes.
+// Whether a thousand of these lists with some bytes changed are answered so, and a thousand of up to 14 random bytes.
 fn are_answered(alloc: Global, graph: &mut Graph) -> bool {
     let mut state = 31;
     let mut right = true;
@@ -135,7 +135,7 @@ fn are_answered(alloc: Global, graph: &mut Graph) -> bool {
     right
 }
 
-// The same on the two edges.
+// Whether all of these lists are answered so on the two edges.
 fn are_answered_there(rt: &HostRuntime) -> bool {
     match tabs(rt, TWO_EDGES) {
         Ok(mut graph) => are_answered(rt.alloc(), &mut graph),

@@ -2,7 +2,7 @@
 
 use super::*;
 
-// What is told of an edge list with tabs that is read at once.
+// An edge list with tabs that is read at once.
 fn read_at_once(rt: &HostRuntime, text: &[u8], limits: EdgeLimits) -> Result<EdgeList, EdgeError> {
     let Ok(state) = RandomState::new(rt) else {
         return Err(EdgeError::Memory);
@@ -28,7 +28,7 @@ fn list_given(rt: &HostRuntime, text: &[u8], limits: EdgeLimits) -> Result<EdgeL
     edges.finish(rt.alloc())
 }
 
-// What is told of it.
+// What such a list is read as.
 fn told_of_list(list: &Result<EdgeList, EdgeError>) -> Told {
     match list {
         Ok(list) => Ok(shown(&list.graph)),
@@ -36,7 +36,7 @@ fn told_of_list(list: &Result<EdgeList, EdgeError>) -> Told {
     }
 }
 
-// Whether it is told so both ways.
+// Whether the two edges are read so both ways.
 fn is_told(rt: &HostRuntime, case: &(u32, u64, Result<Pieces<'_>, EdgeError>)) -> bool {
     let (vertices, edges, wanted) = *case;
     let limits = EdgeLimits { vertices, edges };
@@ -45,7 +45,7 @@ fn is_told(rt: &HostRuntime, case: &(u32, u64, Result<Pieces<'_>, EdgeError>)) -
         && told_of_list(&list_given(rt, TWO_EDGES, limits)) == wanted
 }
 
-// Limits, and what is told of the two edges.
+// Limits, and what the two edges are read as.
 static CASES: [(u32, u64, Result<Pieces<'static>, EdgeError>); 4] = [
     (u32::MAX, u64::MAX, Ok(&[(TWO_LINES, 1)])),
     (3, 2, Ok(&[(TWO_LINES, 1)])),
@@ -53,7 +53,7 @@ static CASES: [(u32, u64, Result<Pieces<'static>, EdgeError>); 4] = [
     (3, 1, Err(EdgeError::TooManyEdges)),
 ];
 
-// Whether all are told so.
+// Whether the two edges are read so within each of these limits.
 fn are_told(rt: &HostRuntime) -> bool {
     let mut right = true;
     for case in &CASES {

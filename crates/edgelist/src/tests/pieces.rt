@@ -34,7 +34,7 @@ fn list_given(
     edges.finish(rt.alloc())
 }
 
-// What is told of a text that is given to a reader.
+// What a text that is given to a reader is read as.
 pub(super) fn given(
     rt: &HostRuntime,
     text: &[u8],
@@ -74,7 +74,7 @@ fn push_pieces(text: &mut Vec<u8>, pieces: Pieces<'_>) -> bool {
 // An edge list with tabs, and the lines of its graph or the error.
 pub(super) type Case<'a> = (Pieces<'a>, Result<Pieces<'a>, EdgeError>);
 
-// Whether a text with tabs is told so, at once and where its bytes are given one after the other.
+// Whether a text with tabs is read so, at once and with its bytes given one after the other.
 fn is_told_both_ways(rt: &HostRuntime, text: &[u8], wanted: &Told) -> bool {
     given(rt, text, Delimiter::Tab, NO_LIMITS) == *wanted
         && told(rt, at_once(text), Delimiter::Tab, NO_LIMITS) == *wanted
@@ -147,7 +147,7 @@ fn give_pieces(alloc: Global, edges: &mut EdgeReader, pieces: Pieces<'_>) -> Res
     answer
 }
 
-// What is answered to the bytes of an edge list with tabs before its end is told.
+// What is answered to the bytes of an edge list with tabs before its end.
 fn answered(rt: &HostRuntime, pieces: Pieces<'_>) -> Result<(), EdgeError> {
     match reader(rt, Delimiter::Tab, NO_LIMITS) {
         Ok(mut edges) => give_pieces(rt.alloc(), &mut edges, pieces),

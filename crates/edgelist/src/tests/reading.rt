@@ -3,11 +3,11 @@
 use super::pieces::{given, records_given, records_of};
 use super::*;
 
-/// An edge list, what stands between its fields, the limits on vertices and records, and the lines of its graph or the
+/// An edge list, what is between its fields, the limits on vertices and records, and the lines of its graph or the
 /// error.
 pub(super) type Case<'a> = (&'a [u8], Delimiter, u32, u64, Result<&'a [u8], EdgeError>);
 
-// Whether an edge list is told so, and also where its bytes are given one after the other.
+// Whether an edge list is read so, and also with its bytes given one after the other.
 fn is_told(rt: &HostRuntime, case: &Case<'_>) -> bool {
     let (text, delimiter, vertices, edges, wanted) = *case;
     let limits = EdgeLimits { vertices, edges };
@@ -139,17 +139,17 @@ fn records_are_counted(rt: HostRuntime) {
 }
 
 // An edge list, how many of its bytes come at a time, the limit on records, how many calls are made of its reader, and
-// what is told where all of them succeed.
+// what the list is read as, if all of them succeed.
 type Calls<'a> = (&'a [u8], usize, u64, u64, Result<Pieces<'a>, EdgeError>);
 
-// What is told of an edge list where so many calls succeed.
+// What an edge list is read as, if so many calls succeed.
 fn told_after(rt: &HostRuntime, case: &Calls<'_>, good: u64) -> Told {
     let (bytes, step, edges, _, _) = *case;
     let limits = EdgeLimits { vertices: 9, edges };
     told(rt, Stepping { bytes, step, good }, Delimiter::Tab, limits)
 }
 
-// Whether a failure of each of these calls is told, and no call follows them.
+// Whether a failure of each of these calls is answered, and no call follows them.
 fn fails_at_each(rt: &HostRuntime, case: &Calls<'_>) -> bool {
     let mut right = told_after(rt, case, case.3) == told_of(case.4);
     for good in 0..case.3 {
@@ -161,7 +161,7 @@ fn fails_at_each(rt: &HostRuntime, case: &Calls<'_>) -> bool {
 // The two edges with CRLF: ten bytes, which with the end take eleven calls.
 const TEN_BYTES: &[u8] = b"a\tb\r\nb\tc\r\n";
 
-// A byte order mark that comes byte by byte is skipped. Where all bytes come at once the end is asked for twice. A record
+// A byte order mark that comes byte by byte is skipped. If all bytes come at once the end is asked for twice. A record
 // is refused once its LF was read, and no call follows.
 static CALLS: [Calls<'static>; 6] = [
     (TEN_BYTES, 1, 2, 11, Ok(&[(TWO_LINES, 1)])),
@@ -198,7 +198,7 @@ fn failing_readers(rt: HostRuntime) {
     assert!(rt; all_fail_at_each(&rt));
 }
 
-// Forty lines of four bytes, of which the one at this place, where there is one, has an empty first field.
+// Forty lines of four bytes, of which the one at this place, if there is one, has an empty first field.
 fn forty_lines(fault: usize) -> [u8; 160] {
     let mut text = [0u8; 160];
     for i in 0..160usize {
@@ -211,7 +211,8 @@ fn forty_lines(fault: usize) -> [u8; 160] {
     text
 }
 
-// Whether these lines are told so, by a reader of which no call succeeds after that which gives the line at this place.
+// Whether these lines are refused at this place, by a reader of which no call succeeds after that which gives the line
+// there.
 fn stops_there(rt: &HostRuntime, fault: usize) -> bool {
     let text = forty_lines(fault);
     let reader = Stepping {

@@ -20,12 +20,12 @@ fn are_answered(first: Told, second: Told) -> bool {
     }
 }
 
-// What is told of the two edges.
+// What the two edges are read as.
 fn told_there(rt: &HostRuntime) -> Told {
     told(rt, at_once(TWO_EDGES), Delimiter::Tab, NO_LIMITS)
 }
 
-// What is told of the two edges where three threads read them.
+// What the two edges are read as by three threads.
 fn told_by_three<R: AllocGlobal + Threads + Sync>(rt: &R, state: RandomState) -> Told {
     let mut reader = CountingReader::new(at_once(TWO_EDGES));
     match job_by(3).read_network_by(rt, &Unwatched, state, &mut reader, None) {
@@ -52,7 +52,7 @@ fn is_counted(alloc: Global, graph: &mut Graph) -> bool {
     }
 }
 
-// Whether a graph has a part, by whichever masks it is made: where memory is refused there is none.
+// Whether a graph has a part, by whichever masks it is made: if memory is refused there is none.
 fn has_part(alloc: Global, graph: &Graph) -> bool {
     part_of(alloc, graph, 2, 1).is_some() && part_by_feeds(alloc, graph, 2, 1).is_some()
 }
@@ -68,7 +68,7 @@ fn is_answered_there(rt: &HostRuntime) -> Option<bool> {
     }
 }
 
-// Whether all is answered. Where memory is refused before there is a graph, all is done again, and nothing is refused.
+// Whether all is answered. If memory is refused before there is a graph, all is done again, and nothing is refused.
 fn all_is_answered(rt: &HostRuntime) -> bool {
     let right = are_answered(told_there(rt), told_there(rt));
     let answered = match is_answered_there(rt) {

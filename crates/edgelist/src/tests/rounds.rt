@@ -1,9 +1,5 @@
 //! Edge lists that several threads read, piece by piece.
 
-ghost use Rattle.std.specs.Prelude.{◌≤◌};
-ghost use Rattle.ball_model.specs.Input.{most_records};
-ghost use Rattle.ball_model.specs.PlanValue.{most_vertices};
-
 use super::reading::{CASES, Case};
 use super::{Stepping, TWO_EDGES, TWO_LINES, Told, at_once, hash, shown};
 use crate::rounds::Rounds;
@@ -15,7 +11,7 @@ use std::cell::Cell;
 use std::hash::RandomState;
 use std::thread::Threads;
 
-// What is told of an edge list.
+// What an edge list was read as.
 fn told_of_list(read: Result<EdgeList, EdgeError>) -> Told {
     match read {
         Ok(list) => Ok(shown(&list.graph)),
@@ -23,18 +19,24 @@ fn told_of_list(read: Result<EdgeList, EdgeError>) -> Told {
     }
 }
 
-// What is told of an edge list that four threads read, in rounds of three pieces of so many bytes.
-fn told_by<R: AllocGlobal + Threads + Sync>(
+// How many bytes a piece takes, and how many come at a time.
+type Way = (usize, usize);
+
+// What a worked edge list is read as by four threads, in rounds of three pieces, from a reader of which so many calls
+// succeed.
+fn told_in<R: AllocGlobal + Threads + Sync>(
     rt: &R,
     state: RandomState,
-    reader: Stepping<'_>,
-    delimiter: Delimiter,
-    limits: EdgeLimits,
-    size: usize,
-) -> Told
-    requires vertices { limits.vertices ≤ most_vertices }
-    requires edges { limits.edges ≤ most_records }
-{
+    case: &Case<'_>,
+    way: Way,
+    good: u64,
+) -> Told {
+    let (bytes, delimiter, vertices, edges, _) = *case;
+    let (size, step) = way;
+    let limits = EdgeLimits {
+        vertices: vertices.min(LIMITS.vertices),
+        edges: edges.min(LIMITS.edges),
+    };
     let rounds = Rounds {
         rt,
         watch: &Unwatched,
@@ -43,33 +45,22 @@ fn told_by<R: AllocGlobal + Threads + Sync>(
         size,
         threads: 4,
     };
-    let mut reader = CountingReader::new(reader);
+    let mut reader = CountingReader::new(Stepping { bytes, step, good });
     told_of_list(rounds.read(state, &mut reader))
 }
 
-// Whether a worked edge list is told as it is by one thread, in pieces of so many bytes, by a reader that gives so many
-// bytes at a time.
+// Whether it is read as it is by one thread, from a reader of which so many calls succeed.
 fn is_told<R: AllocGlobal + Threads + Sync>(
     rt: &R,
     state: RandomState,
     case: &Case<'_>,
-    size: usize,
-    step: usize,
+    way: Way,
+    good: u64,
 ) -> bool {
-    let (bytes, delimiter, vertices, edges, wanted) = *case;
-    let limits = EdgeLimits {
-        vertices: vertices.min(LIMITS.vertices),
-        edges: edges.min(LIMITS.edges),
-    };
-    let reader = Stepping {
-        bytes,
-        step,
-        good: u64::MAX,
-    };
-    told_by(rt, state, reader, delimiter, limits, size) == told_of_lines(wanted)
+    told_in(rt, state, case, way, good) == told_of_lines(case.4)
 }
 
-// What should be told, with the lines of the graph.
+// What is wanted, with the lines of the graph.
 fn told_of_lines(wanted: Result<&[u8], EdgeError>) -> Told {
     match wanted {
         Ok(lines) => Ok(hash(&[(lines, 1)])),
@@ -77,11 +68,12 @@ fn told_of_lines(wanted: Result<&[u8], EdgeError>) -> Told {
     }
 }
 
-// The bytes of a piece and how many come at a time. Pieces of one line each are cut at each LF, CR LF, comment and
-// record that is refused. Where few come at a time a round has one piece, and else it has three.
-static WAYS: [(usize, usize); 6] = [
+// A round has one piece if fewer bytes come than are asked for, and else it has three. Each line of each row begins a
+// piece in one of these ways at least: also comments, empty lines, those after CR LF and what is refused.
+static WAYS: [Way; 7] = [
     (1, usize::MAX),
-    (1, 1),
+    (5, 2),
+    (5, usize::MAX),
     (16, 1),
     (16, 5),
     (16, usize::MAX),
@@ -98,7 +90,7 @@ const PATH_LINES: &[u8] = b"a\nb 0\nc 1\nd 2\ne 3\nf 4\ng 5\nh 6\ni 7\nj 8\nk 9\
 const TWO_FAULTS: &[u8] =
     b"a\tb\nb\tc\nc\td\nd\te\ne\tf\n\tgg\ng\th\nh\ti\n\tjj\nj\tk\nk\tl\nl\tm\n";
 
-// Lists of three pieces, of which the second one has what is refused first, after records of the first.
+// Lists of three pieces of sixteen bytes. All but the first list are refused at the sixth line, in the second piece.
 static LONGER: [Case<'static>; 4] = [
     (PATH, Tab, 13, 12, Ok(PATH_LINES)),
     (TWO_FAULTS, Tab, 9, 99, Err(EdgeError::Fields { number: 6 })),
@@ -106,7 +98,7 @@ static LONGER: [Case<'static>; 4] = [
     (PATH, Tab, 6, 99, Err(EdgeError::TooManyVertices)),
 ];
 
-// Whether all are told so in each way.
+// Whether all are read so in each way.
 fn are_told<R: AllocGlobal + Threads + Sync>(
     rt: &R,
     state: RandomState,
@@ -114,8 +106,8 @@ fn are_told<R: AllocGlobal + Threads + Sync>(
 ) -> bool {
     let mut right = true;
     for case in cases {
-        for (size, step) in &WAYS {
-            right &= is_told(rt, state, case, *size, *step);
+        for way in &WAYS {
+            right &= is_told(rt, state, case, *way, u64::MAX);
         }
     }
     right
@@ -129,45 +121,72 @@ fn worked_edge_lists_piece_by_piece(rt: HostRuntime) {
     assert!(rt; are_told(&rt, state, &CASES) && are_told(&rt, state, &LONGER));
 }
 
-// An edge list, the bytes of a piece, how many bytes come at a time, how many calls are made of its reader, and what is
-// told where all of them succeed.
-type Calls<'a> = (&'a [u8], usize, usize, u64, Result<&'a [u8], EdgeError>);
+// An edge list, how it is read, and how many calls are made of its reader.
+type Calls<'a> = (Case<'a>, Way, u64);
 
-// Where bytes come one by one each takes a call, and the end takes one. So does each piece, where all are there. The reads
-// after the record that is refused, of its round and of the next one, are made before it is found.
-static CALLS: [Calls<'static>; 5] = [
-    (TWO_EDGES, 4, 1, 9, Ok(TWO_LINES)),
-    (TWO_EDGES, 4, usize::MAX, 3, Ok(TWO_LINES)),
-    (TWO_EDGES, 99, usize::MAX, 2, Ok(TWO_LINES)),
-    (b"\xef\xbb\xbfa\tb\r\nb\tc", 4, 1, 12, Ok(TWO_LINES)),
+// If bytes come one by one each takes a call, and the end takes one. So does each piece, if all are there.
+static CALLS: [Calls<'static>; 4] = [
+    ((TWO_EDGES, Tab, 9, 9, Ok(TWO_LINES)), (4, 1), 9),
+    ((TWO_EDGES, Tab, 9, 9, Ok(TWO_LINES)), (4, usize::MAX), 3),
+    ((TWO_EDGES, Tab, 9, 9, Ok(TWO_LINES)), (99, usize::MAX), 2),
     (
-        TWO_FAULTS,
-        16,
-        usize::MAX,
-        4,
-        Err(EdgeError::Fields { number: 6 }),
+        (b"\xef\xbb\xbfa\tb\r\nb\tc", Tab, 9, 9, Ok(TWO_LINES)),
+        (4, 1),
+        12,
     ),
 ];
 
-// What is told if so many calls succeed.
-fn told_after<R: AllocGlobal + Threads + Sync>(
+// How the longer lists are read, and how many calls are made if the sixth line is refused. The pieces of the next round
+// are asked for before it is found: those of the lines 7 to 9, or one that takes three calls, or the end of the list. If
+// all lines are in one piece, the end is asked for with these.
+static REFUSED_AFTER: [(Way, u64); 4] = [
+    ((4, usize::MAX), 9),
+    ((16, 5), 10),
+    ((16, usize::MAX), 4),
+    ((99, usize::MAX), 2),
+];
+
+// Whether a failure of each of so many calls is answered, and what the list says if only the next one would fail.
+fn fails_at_each<R: AllocGlobal + Threads + Sync>(
     rt: &R,
     state: RandomState,
-    case: &Calls<'_>,
-    good: u64,
-) -> Told {
-    let (bytes, size, step, _, _) = *case;
-    let reader = Stepping { bytes, step, good };
-    told_by(rt, state, reader, Tab, LIMITS, size)
+    case: &Case<'_>,
+    way: Way,
+    calls: u64,
+) -> bool {
+    let mut right = is_told(rt, state, case, way, calls);
+    for good in 0..calls {
+        right &= told_in(rt, state, case, way, good) == Err(EdgeError::Read);
+    }
+    right
 }
 
-// Whether a failure of each of these calls is told.
-fn fail_at_each<R: AllocGlobal + Threads + Sync>(rt: &R, state: RandomState) -> bool {
+// Whether it is so for the lists that are read whole.
+fn all_fail_at_each<R: AllocGlobal + Threads + Sync>(rt: &R, state: RandomState) -> bool {
     let mut right = true;
-    for case in &CALLS {
-        right &= told_after(rt, state, case, case.3) == told_of_lines(case.4);
-        for good in 0..case.3 {
-            right &= told_after(rt, state, case, good) == Err(EdgeError::Read);
+    for (case, way, calls) in &CALLS {
+        right &= fails_at_each(rt, state, case, *way, *calls);
+    }
+    right
+}
+
+// Whether it is so for every worked edge list that comes byte by byte: each byte takes a call, and so does the end. It is
+// asked for before a record of these short lists is refused.
+fn worked_fail_at_each<R: AllocGlobal + Threads + Sync>(rt: &R, state: RandomState) -> bool {
+    let mut right = true;
+    for case in &CASES {
+        let calls = (case.0.len() as u64).saturating_add(1);
+        right &= fails_at_each(rt, state, case, (16, 1), calls);
+    }
+    right
+}
+
+// Whether it is so for the longer lists that are refused.
+fn refused_fail_at_each<R: AllocGlobal + Threads + Sync>(rt: &R, state: RandomState) -> bool {
+    let mut right = true;
+    for case in &LONGER[1..] {
+        for (way, calls) in &REFUSED_AFTER {
+            right &= fails_at_each(rt, state, case, *way, *calls);
         }
     }
     right
@@ -178,18 +197,21 @@ fn failing_readers_piece_by_piece(rt: HostRuntime) {
     let Ok(state) = RandomState::new(&rt) else {
         return;
     };
-    assert!(rt; fail_at_each(&rt, state));
+    let right = all_fail_at_each(&rt, state)
+        && worked_fail_at_each(&rt, state)
+        && refused_fail_at_each(&rt, state);
+    assert!(rt; right);
 }
 
-// The last number that was told.
+// The last number of records that the watch was called with, if there is one.
 #[derive(Drop)]
 struct Last {
-    records: Cell<u64>,
+    records: Cell<Option<u64>>,
 }
 
 impl Watch for Last {
     fn while_read(&self, records: u64) {
-        self.records.set(records);
+        self.records.set(Some(records));
     }
 }
 
@@ -207,14 +229,14 @@ pub(super) fn job_by(threads: u16) -> JobOptions {
     }
 }
 
-// The number of records of the two edges, and how many the watch was told of last.
+// The number of records of the two edges, and how many the watch was called with last.
 fn records_by<R: AllocGlobal + Threads + Sync>(
     rt: &R,
     state: RandomState,
     threads: u16,
-) -> Option<(u64, u64)> {
+) -> Option<(u64, Option<u64>)> {
     let watch = Last {
-        records: Cell::new(0),
+        records: Cell::new(None),
     };
     let mut reader = CountingReader::new(at_once(TWO_EDGES));
     match job_by(threads).read_network_by(rt, &watch, state, &mut reader, None) {
@@ -227,9 +249,9 @@ fn records_by<R: AllocGlobal + Threads + Sync>(
 fn records_in_pieces<R: AllocGlobal + Threads + Sync>(
     rt: &R,
     state: RandomState,
-) -> Option<(u64, u64)> {
+) -> Option<(u64, Option<u64>)> {
     let watch = Last {
-        records: Cell::new(0),
+        records: Cell::new(None),
     };
     let rounds = Rounds {
         rt,
@@ -245,15 +267,15 @@ fn records_in_pieces<R: AllocGlobal + Threads + Sync>(
     }
 }
 
-// One thread tells the watch nothing. More tell it what was added before the last round: none of the records where there
-// is one round, and one of them where each has a round.
+// One thread tells the watch nothing. More tell it what was added before the last round: nothing if there is one round,
+// and one record if each has a round.
 #[test]
 fn records_are_told(rt: HostRuntime) {
     let Ok(state) = RandomState::new(&rt) else {
         return;
     };
-    let right = records_by(&rt, state, 1) == Some((2, 0))
-        && records_by(&rt, state, 3) == Some((2, 0))
-        && records_in_pieces(&rt, state) == Some((2, 1));
+    let right = records_by(&rt, state, 1) == Some((2, None))
+        && records_by(&rt, state, 3) == Some((2, None))
+        && records_in_pieces(&rt, state) == Some((2, Some(1)));
     assert!(rt; right);
 }

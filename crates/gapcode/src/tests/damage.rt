@@ -2,7 +2,7 @@
 
 use super::*;
 
-/// Bytes of lists, how many lists they are, a bound, and how often lists are read where each bit is turned in turn: lists
+/// Bytes of lists, how many lists they are, a bound, and how often lists are read as each bit is turned in turn: lists
 /// [], [0] and [1]; list [0, 2, 5]; lists of one great element.
 static SPELLED: [(&[u8], usize, u32, u32); 4] = [
     (&THREE, 3, 9, 2),
@@ -37,8 +37,8 @@ fn cut_lists_have_ended(rt: HostRuntime) {
     assert_eq!(rt; first_cut_not_ended(rt.alloc()), None);
 }
 
-// Reads bytes, and tells how often they were read as lists: once, or not at all. A refusal for anything but memory is no
-// fault; for memory, or where the lists are not just these bytes, there is no answer.
+// Reads bytes, and tells how often they were read as lists: once, or not at all. A refusal for anything but memory is
+// no fault; for memory, or if the lists are not just these bytes, there is no answer.
 fn see(alloc: Global, bytes: &[u8], count: usize, bound: u32) -> Option<u32> {
     match Lists::read(alloc, bytes, count, bound) {
         Ok(lists) => are_these(&lists, bytes, count).then_some(1),

@@ -32,7 +32,7 @@ pub struct Texts<'a> {
     pub about: &'a str,
     /// What it does, at length.
     pub long_about: &'a str,
-    /// What stands behind its arguments.
+    /// What its help says after its arguments.
     pub after_help: &'a str,
 }
 
@@ -118,7 +118,7 @@ fn bare<'a>(alloc: Global, texts: &Texts<'a>) -> Command<'a>
         .after_long_help(texts.after_help)
 }
 
-/// The subcommand of these texts, with some arguments and with others behind them.
+/// The subcommand of these texts, with some arguments and with others after them.
 pub fn subcommand_of<'a>(
     alloc: Global,
     texts: &Texts<'a>,

@@ -45,14 +45,14 @@ Cores:
 
 Memory:
   It keeps the counters of all vertices, 2 * 2^log2m bytes each, and the edge list as a node does.
-  Where they do not fit into one machine, totals and figures of each node tell its own part of the
+  If they do not fit into one machine, totals and figures of each node give its own part of the
   report ('hyperball node --help'). More than 2^24 vertices or 2^26 records are too many, unless
   --large is said: it lifts the limits to 2^31 and 2^32 - 1.
 
 Exit status:
   0  the report was written, or help was asked for
-  1  a fault, told in one line on standard error; nothing was written, unless memory was
-     refused or the output failed, where a beginning of the report may stand
+  1  a fault, in one line on standard error; nothing was written, unless memory was refused
+     or the output failed: then a beginning of the report may have been written
   2  words that are no command";
 
 const GATHER_PARTS_HELP: &str =
@@ -66,7 +66,7 @@ const GATHER_THREADS_HELP: &str =
 pub struct GatherWords {
     /// What is asked of its job. Its threads make the figures.
     pub job: JobInput,
-    /// Whether progress is to be told.
+    /// Whether progress is to be reported.
     pub progress: bool,
 }
 
@@ -104,7 +104,7 @@ pub fn gather_words_of(matches: &ArgMatches<'_>) -> GatherWords
     }
 }
 
-/// The report of the checkpoints in the input, of all partitions of a job. Where there is a teller, it tells how the
+/// The report of the checkpoints in the input, of all partitions of a job. If there is a teller, it tells how the
 /// gathering gets on.
 pub fn gather_by<H: AllocGlobal + Threads + Sync, T: Teller, R: CountedRead, W: CountedWrite>(
     server: &Server<'_, H, T>,

@@ -26,7 +26,7 @@ const LOG2M_HELP: &str =
 const SEED_HELP: &str = "Seed under which vertices are hashed [default: 0]";
 
 const LIMIT_HELP: &str =
-    "Greatest superstep, 1 to 4096; a run ends sooner where nothing changes [default: 4096]";
+    "Greatest superstep, 1 to 4096; a run ends sooner if nothing changes [default: 4096]";
 
 const ESTIMATE_HELP: &str =
     "raw: far too large for small sets; corrected: near the true size for all [default: raw]";
@@ -36,7 +36,7 @@ const DELIMITER_HELP: &str = "What stands between the two fields of a line [defa
 const COUNTED_HELP: &str =
     "Count only the vertices listed after the edge list and a line %%: how near are they?";
 
-/// The help of `--parts`, where it is no hint on how many cores a run takes.
+/// The help of `--parts`, if it is no hint on how many cores a run takes.
 pub const PARTS_HELP: &str = "Partitions that vertices are dealt out to, 1 to 64 [default: 1]";
 
 /// The options that are not given: counters of 256 bytes, seed 0, one partition, the greatest limit, raw estimates, tabs, and
@@ -86,7 +86,7 @@ pub fn job_arguments<'a>(
     ]
 }
 
-/// The delimiter of that name; where none is given it is the usual one.
+/// The delimiter of that name; if none is given it is the usual one.
 pub fn delimiter_of(name: Option<&str>) -> Delimiter
     ensures { (d : Delimiter) → MatchOption (option_map (λ name. name.now) name.entry)
         (d ≡ Delimiter.Tab) (λ name. name ≡ delimiter_name d) → result ≡ d }
@@ -98,7 +98,7 @@ pub fn delimiter_of(name: Option<&str>) -> Delimiter
     }
 }
 
-/// The way to make estimates of that name; where none is given it is the usual one.
+/// The way to make estimates of that name; if none is given it is the usual one.
 pub fn estimate_of(name: Option<&str>) -> Estimate
     ensures { (e : Estimate) → MatchOption (option_map (λ name. name.now) name.entry)
         (e ≡ Estimate.Raw) (λ name. name ≡ estimate_name e) → result ≡ e }
@@ -138,7 +138,7 @@ pub fn wants_large(matches: &ArgMatches<'_>) -> bool
     matches.get_flag("large")
 }
 
-/// Whether progress is to be told.
+/// Whether progress is to be reported.
 pub fn wants_progress(matches: &ArgMatches<'_>) -> bool
     ensures { (b : Bool) → IsFlag (rows_of (found_of matches.now)) (codes "progress") b →
         result ≡ b }

@@ -26,7 +26,7 @@ const NODE_ABOUT: &str =
     "Is one partition's node of a job that several machines share, and answers commands";
 
 const NODE_LONG_ABOUT: &str =
-    "Is one partition's node of a job, for a graph whose counters do not fit into one machine. Where
+    "Is one partition's node of a job, for a graph whose counters do not fit into one machine. If
 they do, 'hyperball run' does the whole job, and sooner.
 
 An engine that people already have (Dask, Slurm, a shell with ssh) starts a node for each
@@ -47,31 +47,31 @@ const NODE_AFTER: &str = "Example, of a job of one partition:
 
 Commands, one on a line, and their answers. T is a superstep, P and Q are partitions, and L is how
 many bytes follow the line.
-  send Q        what partition Q is to be told of the superstep: sent T P Q, how many vertices
-                changed, how many stand in the batch, L, and then the batch; refused no-target
-  deliver L     with a batch behind it, once, again or late: new, known, old, too-early T,
+  send Q        gives the superstep's batch for partition Q: sent T P Q, how many vertices
+                changed, how many are in the batch, L, and then the batch; refused no-target
+  deliver L     takes the batch after it, once, again or late: new, known, old, too-early T,
                 not-mine, own-partition, other-job; or refused, and what was found in it
   close         goes on to the next superstep, once each other partition was heard:
-                closed T, waiting Q, or finished where the run is over
+                closed T, waiting Q, or finished if the run is over
   keep          gives the checkpoint of the node: kept T L, and then the checkpoint
-  restart L     goes back to the checkpoint behind it, and to the start where L is 0:
+  restart L     goes back to the checkpoint after it, or to the start if L is 0:
                 restarted T; or refused, and what was found in it
-  recover L     takes over what the checkpoint behind it has: merged T, or refused as above
-  show          tells the node and its vertices, as in a script of 'hyperball replay'
-  totals        tells the sum of its vertices' estimates at each superstep so far
-  figures       tells the report's lines of its vertices
-Where the input ends the node ends. When all are finished, 'hyperball gather' writes the report.
+  recover L     takes over what the checkpoint after it has: merged T, or refused as above
+  show          shows the node and its vertices, as in a script of 'hyperball replay'
+  totals        gives the sum of its vertices' estimates at each superstep so far
+  figures       gives the report's lines of its vertices
+The node ends when its input does. When all are finished, 'hyperball gather' writes the report.
 
 Memory and accuracy:
   A node keeps the counters of its own vertices alone, 2 * 2^log2m bytes each. But it reads the
-  whole edge list, and keeps that, packed, with all labels. What reading takes, how near figures
-  are to the true ones and what they mean is told by 'hyperball run --help'. More than 2^24
+  whole edge list, and keeps that, packed, with all labels. 'hyperball run --help' says what
+  reading takes, how near figures are to the true ones and what they mean. More than 2^24
   vertices or 2^26 records are too many, unless --large is said: it lifts the limits to 2^31 and
   2^32 - 1. It makes no other job: batches and checkpoints are the same with it.
 
 Exit status:
   0  all commands were answered, or help was asked for
-  1  a fault, told in one line on standard error; what was answered before stands
+  1  a fault, in one line on standard error; the answers before it were written
   2  words that are no command";
 
 const NODE_PARTS_HELP: &str =
@@ -87,7 +87,7 @@ pub struct NodeWords {
     pub job: JobInput,
     /// Its partition.
     pub part: u16,
-    /// Whether progress is to be told.
+    /// Whether progress is to be reported.
     pub progress: bool,
 }
 
@@ -125,10 +125,10 @@ pub fn node_words_of(matches: &ArgMatches<'_>) -> NodeWords
     }
 }
 
-/// A node of these words, which answers the commands in the input until that ends. Where there is a teller, it tells
-/// how the node gets on.
+/// A node of these words, which answers the commands in the input until that ends. If there is a teller, it tells how
+/// the node gets on.
 ///
-/// Where there is no job, nothing is answered; what was answered before a request that cannot be read stands.
+/// If there is no job, nothing is answered; what was answered before a request that cannot be read stays.
 pub fn node_by<H: AllocGlobal, T: Teller, R: CountedRead, W: CountedWrite>(
     server: &Server<'_, H, T>,
     state: RandomState,

@@ -65,13 +65,13 @@ Empty lines and lines that begin with # are skipped.
 
 Exit status:
   0  the answers were written, or help was asked for
-  1  a fault, told in one line on standard error; nothing was written, unless memory was
-     refused or the output failed, where a beginning of the answers may stand
+  1  a fault, in one line on standard error; nothing was written, unless memory was refused
+     or the output failed: then a beginning of the answers may have been written
   2  words that are no command";
 
 const REPLICAS_HELP: &str = "Replicas of each partition, 1 to 4 [default: 1]";
 
-// How many replicas each partition has, where that is not said.
+// How many replicas each partition has, if that is not said.
 const REPLICAS: u8 = 1;
 
 /// What the words of a replay say.
@@ -81,7 +81,7 @@ pub struct ReplayWords {
     pub options: ReplayOptions,
     /// Whether a list of counted vertices follows the edge list.
     pub counted: bool,
-    /// Whether progress is to be told.
+    /// Whether progress is to be reported.
     pub progress: bool,
 }
 
@@ -176,12 +176,12 @@ impl From<ReplayError> for ReplayFault {
     }
 }
 
-/// A replay of these words: the answers to the script in the input. Where there is a teller, it tells how it gets on.
+/// A replay of these words: the answers to the script in the input. If there is a teller, it tells how it gets on.
 ///
-/// The faults come in the order of [`ReplayFault`]. `Input(Read)` is answered where a call of the reader failed and nowhere
-/// else, `Input(Size)` only where there are more than 2^26 bytes, and `Lacks` exactly where the input, read whole, lacks that
-/// part. After `Replay(Memory)` and `Replay(Write)` a beginning of the answers may stand; after every other fault nothing
-/// was written.
+/// The faults come in the order of [`ReplayFault`]. `Input(Read)` is answered if a call of the reader failed and at no
+/// other time, `Input(Size)` only if there are more than 2^26 bytes, and `Lacks` exactly if the input, read whole,
+/// lacks that part. After `Replay(Memory)` and `Replay(Write)` a beginning of the answers may be written; after every
+/// other fault nothing was written.
 pub fn replay_by<H: AllocGlobal, T: Teller, R: CountedRead, W: CountedWrite>(
     server: &Server<'_, H, T>,
     state: RandomState,

@@ -59,14 +59,14 @@ Memory and accuracy:
   With --keep 0 and one partition a run takes at most about 2 * 2^log2m + 180 bytes a vertex and
   9 bytes an edge, and while it reads 110 bytes a vertex and 11 bytes an edge. With snapshots, which
   are the default, runs that were measured took 1.3 to 2 times as much. With several partitions
-  any --keep but 1 takes more memory, not less: what they told one another is let go only where each
-  superstep is kept. The relative error of a large set is about 1.04 / sqrt(2^log2m): 26 % at 4,
+  any --keep but 1 takes more memory, not less: the batches that they exchanged are dropped only if
+  each superstep is kept. The relative error of a large set is about 1.04 / sqrt(2^log2m): 26 % at 4,
   6.5 % at 8, 3.3 % at 10. A set of fewer than 2.5 * 2^log2m vertices is estimated too large, the
   more so the smaller it is, unless --estimate corrected is said: take it for figures that are to be
   near the true ones, and raw for those that HyperLogLog's formula gives.
 
 Cores:
-  One partition uses all cores: where many vertices changed, a superstep is shared out to as many
+  One partition uses all cores: if many vertices changed, a superstep is shared out to as many
   threads as there are cores, or as --threads says: 2 on a machine that others use, say. Partitions
   and replicas are for workers that may be lost, and for several machines ('hyperball node'). Each
   replica of each partition has a thread of its own, and an equal share of the threads. Reading
@@ -78,19 +78,19 @@ Large edge lists:
   whole input has at most 64 MiB, with --large too.
 
 Refusals:
-  What is wrong with the edge list is told first: --log2m, --parts and --limit that are out of range
+  Faults of the edge list are reported first: --log2m, --parts and --limit that are out of range
   are refused only once all of it was read. With --progress a line says so at the start.
 
 Figures:
   Harmonic centrality 0.000000 with Lin's index 1.000000: nobody else that counts gets there.
-  Closeness is 1 divided by the sum of distances: 0.000000 where that sum is above a million.
+  Closeness is 1 divided by the sum of distances: 0.000000 if that sum is above a million.
   They count who reaches a vertex; for those that it reaches, swap the two columns of the edge list.
   An undirected graph has each edge both ways: a line 'a b' and a line 'b a'. This adds them:
   awk -F'\\t' '{ sub(/\\r$/, \"\") } { print } !/^#/ && NF == 2 { print $2 \"\\t\" $1 }' a.tsv > b.tsv
 
 Exit status:
   0  the report was written, or help was asked for
-  1  a fault, told in one line on standard error; nothing was written, or the output failed
+  1  a fault, in one line on standard error; nothing was written, or the output failed
   2  words that are no command";
 
 const PARTS_HELP: &str =
@@ -100,7 +100,7 @@ const REPLICAS_HELP: &str =
     "Replicas of each partition, 1 to 4: with 2 a worker may be lost, and not the run [default: 1]";
 
 const ENTRIES_HELP: &str =
-    "Entries of the board, 2 to 16777216: about 2*P*P a superstep and replica; more where it is full [default: 1048576]";
+    "Entries of the board, 2 to 16777216: about 2*P*P a superstep and replica; more if it is full [default: 1048576]";
 
 const KEEP_HELP: &str =
     "Supersteps from one snapshot to the next, 0 to 4096; 0: none, less work if parts is 1 [default: 1]";
@@ -117,16 +117,16 @@ const RESTART_HELP: &str =
 const THREADS_HELP: &str =
     "Threads that work at once in reading, in large supersteps and on figures, 1 to 1024; 0: one a core [default: 0]";
 
-// How many replicas each partition has, where that is not said.
+// How many replicas each partition has, if that is not said.
 const REPLICAS: u8 = 1;
 
-// How many entries the history of the board may have, where that is not said.
+// How many entries the history of the board may have, if that is not said.
 const ENTRIES: u32 = 1_048_576;
 
-// How many supersteps there are from one snapshot to the next, where that is not said.
+// How many supersteps there are from one snapshot to the next, if that is not said.
 const KEEP: u32 = 1;
 
-// After how many idle turns a replica gives up, where that is not said.
+// After how many idle turns a replica gives up, if that is not said.
 const PATIENCE: u32 = 1_000_000;
 
 /// What the words of a run say.
@@ -136,11 +136,11 @@ pub struct RunWords {
     pub options: RunOptions,
     /// Whether a list of counted vertices follows the edge list.
     pub counted: bool,
-    /// Whether progress is to be told.
+    /// Whether progress is to be reported.
     pub progress: bool,
 }
 
-// The arguments of run behind those of its job.
+// The arguments of run after those of its job.
 fn run_arguments<'a>() -> [Argument<'a>; 9]
     ensures { (app : App) → with_arguments result app ≡
         with_progress (with_large (with_orders (with_threads (with_nodes app)))) }
@@ -177,7 +177,7 @@ pub fn run_command<'a>(
     subcommand_of(alloc, &texts, &job, &run_arguments())
 }
 
-// Whether a list is of its form, where one is given.
+// Whether a list is of its form, if one is given.
 fn is_listed(text: Option<&str>) -> bool
     ensures yes { result ≡ true →
         MatchOption (option_map (λ text. text.now) text.entry) ⊤ SpellsOrders }
@@ -191,7 +191,7 @@ fn is_listed(text: Option<&str>) -> bool
     }
 }
 
-// The orders of a list, where one is given.
+// The orders of a list, if one is given.
 fn listed_orders(alloc: Global, text: Option<&str>) -> Result<Vec<(NodeId, u32)>, OrdersError>
     ensures listed { IfOk result (λ os.
         MatchOption (option_map (λ text. text.now) text.entry)
@@ -222,7 +222,7 @@ fn orders_of(alloc: Global, matches: &ArgMatches<'_>) -> Result<(Orders, Orders)
         AreListed (rows_of (found_of matches.now)) os.0.items os.1.items) }
     ensures form { IfErr result (λ e. e ≡ OrdersError.Form →
         AreOrdersIn (rows_of (found_of matches.now))) }
-    // A list is refused only where one is not of its form, and memory only where both are.
+    // A list is refused only if one is not of its form, and memory only if both are.
     ensures misspelt { IfErr result (λ e. e ≡ OrdersError.Form →
         SpellLists (rows_of (found_of matches.now)) → ⊥) }
     ensures memory { IfErr result (λ e. e ≡ OrdersError.Memory →
@@ -430,52 +430,21 @@ fn run_job<
     Ok(())
 }
 
-// A run of these words by a gate, once there are random words.
-fn run_gated<
-    H: AllocGlobal + Clock + RandomSource + Threads + Wait + Sync,
-    T: Teller + Sync,
-    R: CountedRead,
-    W: CountedWrite,
->(
-    rt: &H,
-    gate: &TellingGate<'_, H, T>,
-    words: &RunWords,
-    reader: &mut R,
-    writer: &mut W,
-) -> Result<(), RunFault>
-    // There is a gate.
-    ensures gate { result ≢ Err RunFault.Gate }
-    ensures done { OnOk result (DoesJob words.now.options words.now.counted
-        (reads_of R.remaining R.failed_calls R.sure_calls reader.old reader.new)
-        (writes_of W.contents W.failed_calls writer.old writer.new)) }
-    ensures fault { IfErr result (FailsRun words.now
-        (reads_of R.remaining R.failed_calls R.sure_calls reader.old reader.new)
-        (writes_of W.contents W.failed_calls writer.old writer.new)) }
-    ensures few { words.now.counted ≡ true →
-        ReadsFew (R.remaining reader.old) (R.remaining reader.new) }
+// Random words to hash labels by.
+fn random_state<H: RandomSource>(rt: &H) -> Result<RandomState, RunFault>
+    ensures { IfErr result (λ e. e ≡ RunFault.Random) }
 {
-    gate.before_run(&words.options);
-    let Ok(state) = RandomState::new(rt) else {
-        return Err(RunFault::Random);
-    };
-    let job = Job {
-        rt,
-        options: &words.options,
-        gate,
-    };
-    let answer = run_job(&job, state, words.counted, reader, writer);
-    gate.after_run(answer.is_ok());
-    match answer {
-        Ok(()) => Ok(()),
-        Err(fault) => Err(RunFault::Job(fault)),
+    match RandomState::new(rt) {
+        Ok(state) => Ok(state),
+        Err(_) => Err(RunFault::Random),
     }
 }
 
-/// A run of these words: its report is written. Where there is a teller, it tells how the run gets on.
+/// A run of these words: its report is written. If there is a teller, it tells how the run gets on.
 ///
-/// The faults come in the order of [`RunFault`]. After `Gate` and `Random` nothing was read or written. With a list of counted
-/// vertices the input is read whole ([`read_whole`]), and `Lacks` is answered exactly where no line is the mark; without one
-/// a failed read is answered exactly where a call of the reader failed (while failures can be counted).
+/// The faults come in the order of [`RunFault`]. After `Gate` and `Random` nothing was read or written. With a list of
+/// counted vertices the input is read whole ([`read_whole`]), and `Lacks` is answered exactly if no line is the mark;
+/// without one a failed read is answered exactly if a call of the reader failed (while failures can be counted).
 pub fn run_by<
     H: AllocGlobal + Clock + RandomSource + Threads + Wait + Sync,
     T: Teller + Sync,
@@ -497,9 +466,22 @@ pub fn run_by<
         ReadsFew (R.remaining reader.old) (R.remaining reader.new) }
 {
     let rt = server.rt;
+    let options = &words.options;
     let teller = server.teller.as_ref();
-    let Ok(gate) = TellingGate::new(rt.alloc(), rt, teller, words.options.parts) else {
+    let Ok(gate) = TellingGate::new(rt.alloc(), rt, teller, options.parts) else {
         return Err(RunFault::Gate);
     };
-    run_gated(rt, &gate, &words, reader, writer)
+    gate.before_run(options);
+    let state = random_state(rt)?;
+    let job = Job {
+        rt,
+        options,
+        gate: &gate,
+    };
+    let answer = run_job(&job, state, words.counted, reader, writer);
+    gate.after_run(answer.is_ok());
+    match answer {
+        Ok(()) => Ok(()),
+        Err(fault) => Err(RunFault::Job(fault)),
+    }
 }

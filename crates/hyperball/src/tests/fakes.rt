@@ -10,10 +10,10 @@ use std::io;
 use std::io::{ErrorKind, Read, Write};
 use std::sync::atomic::{AtomicU32, Ordering};
 
-/// A place in a text that stands in pieces.
+/// A place in a text that is in pieces.
 #[derive(Clone, Copy)]
 struct Cursor {
-    // the piece of number 0, and those behind it
+    // the piece of number 0, and those after it
     first: &'static [u8],
     others: Pieces,
     piece: usize,
@@ -114,7 +114,7 @@ pub struct Compared {
     step: usize,
     room: usize,
     taken: usize,
-    // whether a byte came where another was wanted, and where none was
+    // whether a byte came when another was wanted, and when none was
     differs: bool,
     exceeds: bool,
 }
@@ -137,7 +137,7 @@ impl Compared {
         Compared::from(Cursor::new(wanted), step, room)
     }
 
-    /// The same of one piece, which may be empty, with calls that move all of their bytes.
+    /// This piece is wanted, which may be empty, and nothing has come yet. Calls move all of their bytes.
     pub fn of(wanted: &'static [u8], room: usize) -> Compared {
         Compared::from(Cursor::of(wanted), usize::MAX, room)
     }
@@ -152,7 +152,7 @@ impl Compared {
         !self.differs && !self.exceeds
     }
 
-    /// Whether what came has all pieces in it, one behind the other.
+    /// Whether what came has all pieces in it, one after the other.
     pub fn has_all(&self) -> bool {
         self.place.rest().is_empty()
     }
@@ -213,7 +213,7 @@ impl Lines {
         }
     }
 
-    /// Whether none was told.
+    /// Whether none was reported.
     pub fn are_none(&self) -> bool {
         self.told.load(Ordering::SeqCst) == 0
     }
@@ -225,7 +225,7 @@ impl<'a> Teller for &'a Lines {
     }
 }
 
-/// Compares faults with what is wanted, and with what is told of refused memory, and has lines of progress told.
+/// Compares faults with what is wanted, and with the fault of refused memory, and counts lines of progress.
 #[derive(Drop)]
 pub struct Heard<'a> {
     pub text: Compared,
@@ -234,7 +234,7 @@ pub struct Heard<'a> {
 }
 
 impl<'a> Heard<'a> {
-    /// Nothing is told yet.
+    /// Nothing has come yet.
     pub fn new(wanted: &'static [u8], room: usize, lines: &'a Lines) -> Heard<'a> {
         Heard {
             text: Compared::of(wanted, room),

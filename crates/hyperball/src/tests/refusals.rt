@@ -19,7 +19,7 @@ fn is_served_again<H: Host>(rt: &H, case: &Case) -> bool {
     is_right(case, &end) || is_refused(case, &end) && ends(rt, case)
 }
 
-/// What is told of a text that is no list of orders.
+/// The fault of a text that is no list of orders.
 const ORDERS: &[u8] = b"hyperball: an order is P.K@S, with commas between orders\n";
 
 static REFUSABLE: [Case; 9] = [
@@ -43,7 +43,7 @@ static REFUSABLE: [Case; 9] = [
         b"",
     ),
     GATHERED,
-    // what clap tells is told whole, or not at all
+    // what clap tells is written whole, or not at all
     VERSION,
     ("hyperball replays", &[EDGES], 2, &[], b"error: "),
     ("hyperball run --log2m x", &[EDGES], 2, &[], b"error: "),

@@ -37,7 +37,7 @@ const NODE: &str = "hyperball node --log2m 4";
 
 const UNREAD: &[u8] = b"hyperball: the input cannot be read\n";
 
-/// What is read a byte a call: how that ends, and how it ends where a read fails, with what may be written before.
+/// What is read a byte a call: how that ends, and how it ends if a read fails, with what may be written before.
 static READ: [(Case, Case); 5] = [
     (
         (RUN, &[EDGES], 0, &[REPORT], b""),
@@ -70,7 +70,7 @@ static READ: [(Case, Case); 5] = [
     (GATHERED, (GATHER_BOTH, BOTH_KEPT, 1, &[], UNREAD)),
 ];
 
-/// Whether what is read ends so where so many reads go well: all are needed, and the one that finds the end. A read that
+/// Whether what is read ends so if so many reads go well: all are needed, and the one that finds the end. A read that
 /// fails is the last one.
 fn ends_after<H: Host>(rt: &H, whole: &Case, cut: &Case, reads: u64) -> bool {
     let is_read = reads > length_of(whole.1) as u64;
@@ -80,7 +80,7 @@ fn ends_after<H: Host>(rt: &H, whole: &Case, cut: &Case, reads: u64) -> bool {
     is_told(case, &end) && is_all && end.failures == u64::from(!is_read)
 }
 
-/// Each read is needed, and its failure is told.
+/// Each read is needed, and its failure is reported.
 fn each_read_counts<H: Host>(rt: &H, whole: &Case, cut: &Case) {
     for reads in 0..(length_of(whole.1) as u64).saturating_add(2) {
         assert!(rt; ends_after(rt, whole, cut, reads), "{reads} reads");
@@ -121,7 +121,7 @@ row 1 11.115354 0.000000 0.000000 00000000000001000000000000000000
     VERSION,
 ];
 
-/// Whether so much room is filled, and it is told that the output cannot be written where that is too little. A write
+/// Whether so much room is filled, and the fault is that the output cannot be written if that is too little. A write
 /// that fails is the last one.
 fn fills<H: Host>(rt: &H, case: &Case, room: usize) -> bool {
     let fails = room < length_of(case.3);
@@ -160,7 +160,7 @@ fn a_write_of_answers_that_fails(rt: HostRuntime) {
     }
 }
 
-/// Faults that have room for three bytes: what is told then.
+/// Faults that have room for three bytes: what is written then.
 static IN_THREE: [Case; 2] = [
     ("hyperball run --log2m 3", &[b"a\tb\n"], 1, &[], b"hyp"),
     ("hyperball run --log2m x", &[b"a\tb\n"], 2, &[], b"err"),

@@ -116,7 +116,7 @@ const RUN_JOB: JobInput = JobInput {
     counted: true,
 };
 
-/// The options of a job where none is given.
+/// The options of a job if none is given.
 const USUAL_JOB: JobInput = JobInput {
     options: JobOptions {
         log2m: 8,

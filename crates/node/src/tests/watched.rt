@@ -1,4 +1,4 @@
-//! What a watch is told of a node and of a gathering.
+//! What a watch is called with by a node and by a gathering.
 
 use super::vectors::{FIRST_END, SECOND_END};
 use super::*;
@@ -9,7 +9,7 @@ use std::random::RandomSource;
 use std::sync::atomic::{AtomicU64, Ordering};
 use std::thread::Threads;
 
-/// The numbers of its calls, a digit each, one behind the other.
+/// The numbers of its calls, a digit each, one after the other.
 #[derive(Drop)]
 struct Digits {
     all: AtomicU64,
@@ -28,7 +28,7 @@ impl Digits {
         self.all.load(Ordering::SeqCst)
     }
 
-    // Puts a number behind those before it.
+    // Puts a number after those before it.
     fn put(&self, number: u64) {
         let before = self.told();
         self.all.store(
@@ -59,7 +59,8 @@ const ANEW: &[u8] = b"a\tb\n# c\na\tb\nb\n%%\nclose\nrestart 0\nclose\nclose\ncl
 
 const ANSWERS: &[u8] = b"closed 1\nrestarted 0\nclosed 1\nclosed 2\nfinished\n";
 
-/// Whether it answers so, and its watch is told of three records and two vertices, and of the three closes that went on.
+/// Whether it answers so, and its watch is called with three records and two vertices, and for the three closes that
+/// went on.
 fn node_is_watched(rt: &HostRuntime) -> bool {
     let Ok(mut writer) = MemWriter::with_room(rt.alloc(), 4096, None) else {
         return false;
@@ -75,7 +76,7 @@ fn a_watch_is_told_of_a_node_that_goes_on(rt: HostRuntime) {
     assert!(rt; node_is_watched(&rt));
 }
 
-/// What a gathering of two nodes at the end of their run reads, where a and c are of the first, and b of the second.
+/// What a gathering of two nodes at the end of their run reads: a and c are of the first, and b of the second.
 static BOTH_KEPT: [&[u8]; 5] = [
     b"a\tb\na\tb\nb\tc\n%%\n",
     b"part 291\n",
@@ -104,7 +105,7 @@ fn add_both(input: &mut Vec<u8>) -> Result<(), AllocError> {
     Ok(())
 }
 
-/// What a gathering in two partitions writes that reads this; None where it fails.
+/// What a gathering in two partitions writes that reads this; None if it fails.
 fn gathered<T: AllocGlobal + RandomSource + Threads + Sync>(
     rt: &T,
     input: &[u8],
@@ -117,8 +118,8 @@ fn gathered<T: AllocGlobal + RandomSource + Threads + Sync>(
     Some(writer.into_bytes())
 }
 
-/// Whether the report is written, and its watch is told of three records, of which two are one edge, and three vertices, and
-/// of the two checkpoints.
+/// Whether the report is written, and its watch is called with three records, of which two are one edge, and three
+/// vertices, and for the two checkpoints.
 fn gathering_is_watched<T: AllocGlobal + RandomSource + Threads + Sync>(rt: &T) -> bool {
     let mut input = Vec::new(rt.alloc());
     let watch = Digits::new();

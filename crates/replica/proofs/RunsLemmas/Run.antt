@@ -16,7 +16,7 @@ use Rattle.ball_model.proofs.QuietLemmas.{quiet_stays, none_in}
 use Rattle.ball_model.specs.Join.{union_of, merge_of}
 use Rattle.ball_model.specs.Steps.{Call, Take, Close, Merge, CallAnswer, Took, Closed, Merged, answer_due, answers_due, content_after, content_after_all, content_after_close, start_content}
 use Rattle.replica.specs.Level.{found_verdict, EndsRun}
-use Rattle.replica.specs.Runs.{HasContent, Takes, Did, Made, closes_in}
+use Rattle.replica.specs.Runs.{HasContent, Takes, Did, DidAll, closes_in}
 use Rattle.std.specs.Cmp.{booleans_Decides, both_ways}
 use Rattle.std.proofs.lemmas.Slice.Eq.{bytes_eq-Decides}
 use Rattle.replica.proofs.LevelLemmas.Busy.{found_verdict-is}
@@ -69,9 +69,9 @@ did j p (Merge d) (Merged r) c v w h k = grind (arith, same_job, merged)
 did j p call answer c v w h k = absurd k
 
 -- a list of calls: their answers, and the content after them
-pub made : (j : Job) (p : ℕ) (calls : List Call) (answers : List CallAnswer) (c : Content) (v w : State) → HasContent j p c v → Made j p v calls answers w →
+pub made : (j : Job) (p : ℕ) (calls : List Call) (answers : List CallAnswer) (c : Content) (v w : State) → HasContent j p c v → DidAll j p v calls answers w →
     (answers ≡ answers_due j p c calls) × HasContent j p (content_after_all j p c calls) w
-unfolding Made content_after_all answers_due
+unfolding DidAll content_after_all answers_due
 made j p [] [] c v w h m = (refl, subst (λ (u : State). HasContent j p c u) (sym m) h)
 made j p (call ∷ calls) (answer ∷ answers) c v w h m =
     let first = did j p call answer c v m.0 h m.1 in
@@ -80,11 +80,11 @@ made j p (call ∷ calls) (answer ∷ answers) c v w h m =
 made j p calls answers c v w h m = absurd m
 
 -- THE RUN: from the start, by any list of calls, a replica stands for what the calls make of its content
-pub run_stands : (j : Job) (p : ℕ) (calls : List Call) (answers : List CallAnswer) (v w : State) → HasContent j p start_content v → Made j p v calls answers w → HasContent j p (content_after_all j p start_content calls) w
+pub run_stands : (j : Job) (p : ℕ) (calls : List Call) (answers : List CallAnswer) (v w : State) → HasContent j p start_content v → DidAll j p v calls answers w → HasContent j p (content_after_all j p start_content calls) w
 run_stands j p calls answers v w h m = (made j p calls answers start_content v w h m).1
 
 -- and it answers as the contents say
-pub run_answers : (j : Job) (p : ℕ) (calls : List Call) (answers : List CallAnswer) (v w : State) → HasContent j p start_content v → Made j p v calls answers w → answers ≡ answers_due j p start_content calls
+pub run_answers : (j : Job) (p : ℕ) (calls : List Call) (answers : List CallAnswer) (v w : State) → HasContent j p start_content v → DidAll j p v calls answers w → answers ≡ answers_due j p start_content calls
 run_answers j p calls answers v w h m = (made j p calls answers start_content v w h m).0
 
 -- a call never goes back, and a close that went on goes a superstep further
@@ -97,8 +97,8 @@ unfolding closes_in
 closes_first answer answers = grind arith
 
 -- of a list of calls too
-closes_sum : (j : Job) (p : ℕ) (calls : List Call) (answers : List CallAnswer) (c : Content) (v w : State) → HasContent j p c v → Made j p v calls answers w → v.superstep + closes_in answers ≤ w.superstep
-unfolding Made closes_in
+closes_sum : (j : Job) (p : ℕ) (calls : List Call) (answers : List CallAnswer) (c : Content) (v w : State) → HasContent j p c v → DidAll j p v calls answers w → v.superstep + closes_in answers ≤ w.superstep
+unfolding DidAll closes_in
 closes_sum j p [] [] c v w h m = let same : w.superstep ≡ v.superstep = ap (λ (u : State). u.superstep) m in omega (arith, same)
 closes_sum j p (call ∷ calls) (answer ∷ answers) c v w h m =
     let here = closes_rise j p call answer c v m.0 h m.1 in
@@ -107,7 +107,7 @@ closes_sum j p (call ∷ calls) (answer ∷ answers) c v w h m =
 closes_sum j p calls answers c v w h m = absurd m
 
 -- and it is never past the end
-pub run_in_time : (j : Job) (p : ℕ) (calls : List Call) (answers : List CallAnswer) (v w : State) → HasContent j p start_content v → Made j p v calls answers w →
+pub run_in_time : (j : Job) (p : ℕ) (calls : List Call) (answers : List CallAnswer) (v w : State) → HasContent j p start_content v → DidAll j p v calls answers w →
     (closes_in answers ≤ w.superstep) × (w.superstep ≤ end_of (mixing_of j.plan) j.graph j.plan.limit)
 run_in_time j p calls answers v w h m =
     let stands = (run_stands j p calls answers v w h m).stands in

@@ -3,7 +3,7 @@ use Rattle.std.proofs.Common.{◌≡◌, ℕ, ◌+◌, ◌-◌, ◌<◌, ◌≤�
 use Rattle.replica.proofs.Names.{Option, None, le-leb, same_lists, get_or_default, PlanValue, Job, BatchValue, Content, IsContent, in_window, State, content_of, early_at, holds_in}
 use Rattle.ball_model.specs.Steps.{Call, CallAnswer, content_after_all}
 use Rattle.replica.specs.Seen.{IsState}
-use Rattle.replica.specs.Runs.{HasContent, Made}
+use Rattle.replica.specs.Runs.{HasContent, DidAll}
 use Rattle.replica.proofs.ChangeLemmas.Advance.{holds_now, holds_later}
 use Rattle.replica.proofs.AheadLemmas.{no_level}
 use Rattle.replica.proofs.LevelLemmas.Level.{plan_is}
@@ -74,7 +74,7 @@ pub same_replica : (j : Job) (p : ℕ) (c : Content) (v w : State) → HasConten
 same_replica j p c v w h k s r = grind (arith, heard_same, early_same)
 
 -- and the same calls on both have the same answers
-pub same_calls : (j : Job) (p : ℕ) (c : Content) (calls : List Call) (left right : List CallAnswer) (v v2 w w2 : State) → HasContent j p c v → HasContent j p c w → Made j p v calls left v2 → Made j p w calls right w2 →
+pub same_calls : (j : Job) (p : ℕ) (c : Content) (calls : List Call) (left right : List CallAnswer) (v v2 w w2 : State) → HasContent j p c v → HasContent j p c w → DidAll j p v calls left v2 → DidAll j p w calls right w2 →
     (left ≡ right) × ((e : Content) × HasContent j p e v2 × HasContent j p e w2)
 same_calls j p c calls left right v v2 w w2 h k m n =
     let a = made j p calls left c v v2 h m in

@@ -36,7 +36,7 @@ impl Progress {
         self.early.get(level, source).is_some()
     }
 
-    /// The accumulators, a row each: the rows themselves where no others are kept.
+    /// The accumulators, a row each: the rows themselves if no others are kept.
     pub(crate) fn accumulators(&self) -> &Rows
         ensures { result.now ≡ record {
           width = 2 ^ self.now.state.part.plan.log2m;
@@ -67,7 +67,7 @@ impl Progress {
         }
     }
 
-    /// The same, copied: without room for later sums, and without accumulators where each equals its row.
+    /// A copy of all that is known, without room for later sums, and without accumulators if each equals its row.
     pub(crate) fn copied(&mut self, alloc: Global) -> Result<Progress, AllocError>
         ensures same { self.new ≡ self.old }
         ensures copy { IfOk result (λ s. s.state ≡ self.old.state) }

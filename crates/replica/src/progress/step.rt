@@ -90,7 +90,7 @@ impl Progress {
         }
     }
 
-    /// Lets the accumulators go where the run is over and each of them equals its row.
+    /// Drops the accumulators if the run is over and each of them equals its row.
     pub(crate) fn let_go(&mut self)
         requires { CanLetGo self.old }
         ensures { StaysSame self.old self.new }

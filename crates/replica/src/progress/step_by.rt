@@ -14,7 +14,7 @@ use figures::Estimator;
 use std::thread::Threads;
 
 impl Progress {
-    /// Closes the superstep as [`Progress::close_level`] does, in so many threads where it is worth it.
+    /// Closes the superstep as [`Progress::close_level`] does, in so many threads if it is worth it.
     pub(crate) fn close_level_by<R: Threads + Sync>(
         &mut self,
         rt: &R,

@@ -50,7 +50,8 @@ impl Replica {
         Replica::with_targets(alloc, part, targets)
     }
 
-    /// The same, by the index of the part, which was made before: so it takes time in proportion to the registers alone.
+    /// A replica of the part at superstep 0, by the index of the part, which was made before: so it takes time in
+    /// proportion to the registers alone.
     ///
     /// The error is that memory was refused; the part and the index are dropped then.
     pub fn with_targets(
@@ -62,7 +63,7 @@ impl Replica {
         ensures { IfOk result (λ r. Starts (arc_value part) r) }
     {
         let plan = *part.plan();
-        // the limits of a part are told with its number
+        // the limits of a part come with its number
         prove!(part.partition() < plan.parts());
         let estimator = start::estimator_of(alloc, &plan)?;
         let tables = Tables::start(alloc, &part, &estimator)?;
@@ -102,12 +103,12 @@ impl Replica {
 
     /// Holds a batch from now on, or says why not. It takes no memory, and waits for nobody.
     ///
-    /// In this order: [`OtherJob`](TakeError::OtherJob) where the plan is another,
-    /// [`NotMine`](TakeError::NotMine) where the target is, [`OwnPartition`](TakeError::OwnPartition) where the source
-    /// is the replica's own partition; [`Old`](Taken::Old) below its superstep, [`Known`](Taken::Known) where it is
-    /// held, [`TooEarly`](TakeError::TooEarly) more than three supersteps ahead, else [`New`](Taken::New). New adds
-    /// the batch alone; every other answer changes nothing. A batch of the superstep is merged and let go, in time in
-    /// proportion to the registers of the edges from its vertices into the partition; a later one is kept.
+    /// In this order: [`OtherJob`](TakeError::OtherJob) if the plan is another, [`NotMine`](TakeError::NotMine) if the
+    /// target is, [`OwnPartition`](TakeError::OwnPartition) if the source is the replica's own partition;
+    /// [`Old`](Taken::Old) below its superstep, [`Known`](Taken::Known) if it is held,
+    /// [`TooEarly`](TakeError::TooEarly) more than three supersteps ahead, else [`New`](Taken::New). New adds the batch
+    /// alone; every other answer changes nothing. A batch of the superstep is merged and dropped, in time in proportion
+    /// to the registers of the edges from its vertices into the partition; a later one is kept.
     pub fn take(&mut self, batch: Arc<Batch>) -> Result<Taken, TakeError>
         ensures answer { result ≡ take_answer self.old (arc_value batch) }
         ensures names { HoldsAfter (is_new result) (arc_value batch).name self.old self.new }
@@ -122,8 +123,8 @@ impl Replica {
         let answer = self.progress.answer(&batch);
         match answer {
             Ok(Taken::New) => {
-                // the limits of a batch are told with its name
-                let _name = batch.name();
+                // the limits of a batch come with its name
+                let _limits = batch.name();
                 self.progress.receive(&self.targets, batch);
                 answer
             }
@@ -133,13 +134,13 @@ impl Replica {
 
     /// Goes on to the next superstep and answers it. It takes no memory, and waits for nobody.
     ///
-    /// [`Waiting`](CloseError::Waiting) where a batch of the level is missing, for the least such source, then
-    /// [`Finished`](CloseError::Finished) where the verdict is Stable or Limit; an error changes nothing. Batches of
-    /// the superstep go, the others stay. It takes time in proportion to the registers of the vertices that change, and
-    /// of the edges from own vertices that did and from vertices of kept batches that it hears. Marks, a byte a vertex,
-    /// are passed over 64 at once where none is set, and those of the next superstep are copied and cleared. The first
+    /// [`Waiting`](CloseError::Waiting) if a batch of the level is missing, for the least such source, then
+    /// [`Finished`](CloseError::Finished) if the verdict is Stable or Limit; an error changes nothing. Batches of the
+    /// superstep go, the others stay. It takes time in proportion to the registers of the vertices that change, and of
+    /// the edges from own vertices that did and from vertices of kept batches that it hears. Marks, a byte a vertex,
+    /// are passed over 64 at once if none is set, and those of the next superstep are copied and cleared. The first
     /// close after a snapshot copies rows and figures too: those that changed since the snapshot before it, or all of
-    /// them where there was none, or where somebody still holds that one.
+    /// them if there was none, or if somebody still holds that one.
     pub fn close(&mut self) -> Result<u32, CloseError>
         ensures waits { (q : ℕ) →
             (result ≡ Err (waits.Waiting q)) ↔ (missing_in self.old ≡ Some q) }
@@ -163,12 +164,13 @@ impl Replica {
             .close_level(&self.targets, &self.estimator, &mut self.weights)
     }
 
-    /// Closes the superstep as [`Replica::close`] does, in so many threads. Where many vertices changed, each accumulator is
-    /// raised by the rows of its own predecessors ("pulled") by one thread, so that threads share nothing that is written.
-    /// Where there are as many threads as processors, some more are made, since parts of the work take unequal times.
+    /// Closes the superstep as [`Replica::close`] does, in so many threads. If many vertices changed, each accumulator
+    /// is raised by the rows of its own predecessors ("pulled") by one thread, so that threads share nothing that is
+    /// written. If there are as many threads as processors, some more are made, since parts of the work take unequal
+    /// times.
     ///
     /// Errors are those of `close`. It takes no memory but that of its threads, which it joins; a thread that cannot be
-    /// started is done without. It takes the time of `close`, over the processors where many vertices changed.
+    /// started is done without. It takes the time of `close`, over the processors if many vertices changed.
     pub fn close_by<R: Threads + Sync>(&mut self, rt: &R, threads: usize) -> Result<u32, CloseError>
         ensures waits { (q : ℕ) →
             (result ≡ Err (waits.Waiting q)) ↔ (missing_in self.old ≡ Some q) }
@@ -198,7 +200,7 @@ impl Replica {
     }
 
     /// Gives back the memory that a run that is over needs no more: that of the index, and that of the accumulators if
-    /// each equals its row. Where the run is not over it does nothing. What the replica has stays as it is, and only a
+    /// each equals its row. If the run is not over it does nothing. What the replica has stays as it is, and only a
     /// merge or a join may take the memory again.
     pub fn give_back(&mut self)
         ensures { self.new ≡ self.old }
@@ -209,14 +211,14 @@ impl Replica {
         }
     }
 
-    /// Takes over what a snapshot of a replica of the same partition knows: its superstep, rows and figures where it
-    /// is further, and its batches of the superstep reached and of the three that follow.
+    /// Takes over what a snapshot of a replica of the same partition knows: its superstep, rows and figures if it is
+    /// further, and its batches of the superstep reached and of the three that follow.
     ///
-    /// In this order: [`OtherJob`](MergeError::OtherJob) where the plan is another,
-    /// [`NotMine`](MergeError::NotMine) where the partition is, [`Memory`](MergeError::Memory) where that of the list
-    /// of shared batches, three for each partition, is refused, or that of the index and the accumulators, which are
-    /// made again where `give_back` has given them back; an error changes nothing. It waits for nobody. It takes time in
-    /// proportion to the registers of the partition, and of the edges from the early batches' vertices.
+    /// In this order: [`OtherJob`](MergeError::OtherJob) if the plan is another, [`NotMine`](MergeError::NotMine) if
+    /// the partition is, [`Memory`](MergeError::Memory) if that of the list of shared batches, three for each
+    /// partition, is refused, or that of the index and the accumulators, which are made again if `give_back` has given
+    /// them back; an error changes nothing. It waits for nobody. It takes time in proportion to the registers of the
+    /// partition, and of the edges from the early batches' vertices.
     pub fn merge(&mut self, alloc: Global, other: &Snapshot) -> Result<(), MergeError>
         ensures answer { result ≢ Err refusal.Memory →
             result ≡ merge_answer self.old other.now }
@@ -261,7 +263,7 @@ impl Replica {
 
     /// What the replica has now.
     ///
-    /// Rows, figures, batches and the part are shared; a mark for each vertex and the sums so far are copied, and where
+    /// Rows, figures, batches and the part are shared; a mark for each vertex and the sums so far are copied, and if
     /// what is heard has raised a row, the accumulators. Room for a table of rows and one of figures is taken, in which
     /// the replica goes on while somebody holds this one. The error is that memory was refused.
     pub fn snapshot(&mut self, alloc: Global) -> Result<Snapshot, AllocError>

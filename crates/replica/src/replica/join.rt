@@ -34,8 +34,8 @@ impl Join for Replica {
 
     /// Takes over what `other` knows, as [`Replica::merge`] does with a snapshot of it.
     ///
-    /// It takes memory for the list of shared batches, for as long as it works, and where `give_back` has given back
-    /// the index and the accumulators, it makes them again.
+    /// It takes memory for the list of shared batches, for as long as it works, and if `give_back` has given back the
+    /// index and the accumulators, it makes them again.
     fn join(&mut self, alloc: Global, other: &Replica) -> Result<(), AllocError>
         requires { AreAlike (holding_in self.old) (holding_in other.now) }
         ensures joined { OnOk result

@@ -9,7 +9,7 @@ ghost use Rattle.replica.specs.Sent.{AreChanged, AreChangedVertices, batch_name}
 ghost use Rattle.replica.specs.Sent.{changed_registers, sent_batch};
 
 use crate::level::count_set;
-use crate::told::Telling;
+use crate::telling::Telling;
 use crate::{Replica, Shown};
 use ball_model::BatchName;
 use batches::Batch;
@@ -51,7 +51,7 @@ impl Replica {
     /// What the partition tells another one, `target`, of this superstep.
     ///
     /// The batch has the registers of each vertex that changed and has an edge into the target, ascending, and the
-    /// number of all vertices that changed. It is to be sent where it has no rows too: a level is held only with it.
+    /// number of all vertices that changed. It is to be sent even if it has no rows: a level is held only with it.
     #[tactic(auto, using(crate::proofs::SentLemmas::Sent::sent_target))]
     pub fn out(&self, alloc: Global, target: u16) -> Result<Batch, AllocError>
         requires target { target < self.now.part.plan.parts }

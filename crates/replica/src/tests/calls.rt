@@ -1,4 +1,4 @@
-//! What replicas say to each other. Where a call tells None, memory was refused, and all is as it was.
+//! What replicas say to each other. If a call tells None, memory was refused, and all is as it was.
 
 use super::script::Told;
 use super::*;
@@ -38,7 +38,7 @@ pub fn answer_to(
     answer(rt, all, to, batch)
 }
 
-/// Whether one replica takes as new what another one tells it: at once, or when it is told again after memory was
+/// Whether one replica takes as new what another one tells it: at once, or when it is given that again after memory was
 /// refused.
 pub fn is_new(rt: &HostRuntime, all: &mut [Replica], from: usize, to: usize) -> bool {
     let partition = match all.get(to) {

@@ -18,7 +18,8 @@ const AHEAD: [Step; 22] = [
     Answer(1, 0, 0, Ok(Taken::Known)),
     Close(0, Err(CloseError::Waiting { source: 1 })),
     See(0, Accumulated(2, ROW_C)),
-    // it is told of superstep 0 and closes it: the row is spread, and the next close makes it that of vertex 2
+    // it is given the batch of superstep 0 and closes that: the row is spread, and the next close makes it that of
+    // vertex 2
     See(0, Heard(false, false)),
     Tell(3, 0),
     Close(0, Ok(1)),
@@ -34,7 +35,7 @@ const AHEAD: [Step; 22] = [
     See(0, Row(2, ROW_ABC)),
 ];
 
-/// What is kept is told by superstep, then by source, and without the batch of the replica's own superstep; a snapshot
+/// What is kept is shown by superstep, then by source, and without the batch of the replica's own superstep; a snapshot
 /// tells the same.
 const LATER: [Step; 7] = [
     Add(Job {

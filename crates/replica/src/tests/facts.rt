@@ -27,7 +27,7 @@ pub enum Fact {
     Says(Option<Verdict>),
     /// Whether it has heard partition 1, and whether a source that is heard tells of a change.
     Heard(bool, bool),
-    /// Whether it holds what a source told it of a superstep.
+    /// Whether it holds what a source sent it of a superstep.
     Holds(u32, u16, bool),
     /// The superstep and the source of each batch that it keeps for later.
     Early(&'static [(u32, u16)]),
@@ -53,7 +53,7 @@ fn is_settled(replica: &Replica) -> bool {
     same
 }
 
-/// Whether a replica holds what a source told it of a superstep.
+/// Whether a replica holds what a source sent it of a superstep.
 fn holds(replica: &Replica, superstep: u32, source: u16) -> bool {
     let target = replica.partition();
     replica.holds(BatchName {
@@ -78,7 +78,7 @@ fn keeps(replica: &Replica, wanted: &[(u32, u16)]) -> bool {
     same
 }
 
-/// Whether these are the registers that are told, and as many of them are 0 as is told.
+/// Whether these are the registers that are wanted, and as many of them are 0 as the replica says.
 fn has_row((row, empty): Counter<'_>, wanted: &[u8]) -> bool {
     let zeros = wanted.iter().filter(|rank| **rank == 0).count();
     row == wanted && empty as usize == zeros

@@ -5,7 +5,7 @@ ghost use Rattle.ball_model.specs.Job.{digest_of};
 
 use super::*;
 
-/// A job of a graph: its edge list with tabs, the vertices that are counted where not all are, whether estimates are
+/// A job of a graph: its edge list with tabs, the vertices that are counted if not all are, whether estimates are
 /// corrected for small sets, and the numbers of its plan.
 pub struct Job {
     pub text: &'static [u8],
@@ -37,7 +37,7 @@ pub fn graph(rt: &HostRuntime, text: &[u8]) -> Option<Graph> {
     read_edges(rt.alloc(), state, &mut reader, Delimiter::Tab, limits).ok()
 }
 
-/// Counts only the vertices of a list, where there is one.
+/// Counts only the vertices of a list, if there is one.
 fn count(rt: &HostRuntime, graph: &mut Graph, list: Option<&[u8]>) -> bool {
     match list {
         Some(list) => graph.count_only(rt.alloc(), Delimiter::Tab, list).is_ok(),
@@ -106,7 +106,7 @@ fn add_planned(rt: &HostRuntime, all: &mut Vec<Replica>, graph: &mut Graph, job:
     }
 }
 
-/// Adds a replica of each partition of a job, where memory for all is granted.
+/// Adds a replica of each partition of a job, if memory for all is granted.
 fn add_all(rt: &HostRuntime, all: &mut Vec<Replica>, job: &Job) -> bool {
     match graph(rt, job.text) {
         Some(mut graph) => add_planned(rt, all, &mut graph, job),
@@ -114,7 +114,7 @@ fn add_all(rt: &HostRuntime, all: &mut Vec<Replica>, job: &Job) -> bool {
     }
 }
 
-/// Adds a replica of each partition of a job, or none: None where memory was refused.
+/// Adds a replica of each partition of a job, or none: None if memory was refused.
 pub fn add_job(rt: &HostRuntime, all: &mut Vec<Replica>, job: &Job) -> Option<bool> {
     let count = all.len();
     if add_all(rt, all, job) {

@@ -205,9 +205,9 @@ const STAYS: [Step; 4] = [
 
 const SNAPSHOT: [&[Step]; 2] = [&HELD, &STAYS];
 
-/// Scripts, each with replicas of its own: who recovers where it is behind or ahead, by a merge and by a join; runs that
-/// are over; equal supersteps with different names; snapshots of another job and of another partition, which are refused,
-/// and one that tells its content; and those of the other files.
+/// Scripts, each with replicas of its own: who recovers when it is behind or ahead, by a merge and by a join; runs that
+/// are over; equal supersteps with different names; snapshots of another job and of another partition, which are
+/// refused, and one that tells its content; and those of the other files.
 static CASES: [&[&[Step]]; 11] = [
     &RECOVERS_BEHIND,
     &RECOVERS_AHEAD,

@@ -44,7 +44,7 @@ fn fill(rt: &HostRuntime, saved: &mut Saved, from: &Snapshot, early: Option<Batc
     saved.sums.extend_from_slice(tables.sums()).ok()
 }
 
-/// A replica that is made of it, where it fits the part.
+/// A replica that is made of it, if it fits the part.
 fn rebuilt(rt: &HostRuntime, part: Arc<Part>, saved: Saved) -> Option<Box<Replica>> {
     if !saved.fits(&part) {
         return None;
@@ -68,7 +68,7 @@ fn again(rt: &HostRuntime, all: &mut [Replica], place: usize) -> Option<Box<Repl
     again_of(rt, all, &snapshot)
 }
 
-/// Whether it is added: None where memory was refused.
+/// Whether it is added: None if memory was refused.
 pub fn add_again(rt: &HostRuntime, all: &mut Vec<Replica>, place: usize) -> Option<bool> {
     let replica = again(rt, all, place)?;
     all.push(Box::into_inner(replica)).ok()?;

@@ -155,8 +155,8 @@ const ABSORBED: [Step; 6] = [
     See(1, Row(5, [0, 0, 0, 0, 0, 3, 2, 0, 0, 0, 0, 0, 0, 0, 0, 0])),
 ];
 
-/// Two edges where vertex 0 alone is counted. One that is not has empty registers, and is not changed; at the end each
-/// has seen vertex 0, one superstep after the other.
+/// Two edges, with vertex 0 alone counted. One that is not has empty registers, and is not changed; at the end each has
+/// seen vertex 0, one superstep after the other.
 const COUNTED: [Step; 19] = [
     Add(Job {
         counted: Some(b"a"),

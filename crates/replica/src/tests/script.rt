@@ -1,7 +1,7 @@
 //! Scripts: what is done with replicas, and what is to come of it, step by step.
 //!
-//! A step for which memory was refused changes nothing, and is done once more. So a script comes out where any one
-//! growth is refused, and does not where a call tells of refused memory whatever is left.
+//! A step for which memory was refused changes nothing, and is done once more. So a script comes out even if any one
+//! growth is refused, and does not if a call tells of refused memory whatever is left.
 
 use super::calls::*;
 use super::facts::{Fact, is_told};
@@ -37,10 +37,10 @@ pub enum Step {
     Writes(usize, u16, &'static [u8]),
     /// What it tells partitions 1 and 2 over one table of so many bytes is this.
     Shares(usize, [Told; 2], usize),
-    /// Keeps a snapshot of a replica, which tells the same. Where memory is refused the replica is as it was, as the
+    /// Keeps a snapshot of a replica, which tells the same. If memory is refused the replica is as it was, as the
     /// snapshot at another place tells.
     Keep(usize, Option<usize>),
-    /// The snapshots from a place on are let go.
+    /// The snapshots from a place on are dropped.
     LetGo(usize),
     /// A replica tells in each reader what the snapshot at a place does.
     Shows(usize, usize),
@@ -48,8 +48,8 @@ pub enum Step {
     IsFirst(usize, usize),
     /// The snapshot at a place has less room than its replica.
     IsSmall(usize),
-    /// A replica answers this to a merge of the snapshot at a place. Where it does not merge it is as it was, as that
-    /// at another place tells.
+    /// A replica answers this to a merge of the snapshot at a place. If it does not merge it is as it was, as that at
+    /// another place tells.
     Merge(usize, usize, usize, Result<(), MergeError>),
     /// One replica joins another one.
     Join(usize, usize),
@@ -94,7 +94,7 @@ fn shows(world: &World, place: usize, kept: usize) -> bool {
     }
 }
 
-/// What comes of a call for which memory was refused: nothing yet, where the replica is as a snapshot tells.
+/// What comes of a call for which memory was refused: nothing yet, if the replica is as a snapshot tells.
 fn refused(world: &World, place: usize, before: Option<usize>) -> Option<bool> {
     match before {
         Some(before) if !shows(world, place, before) => Some(false),
@@ -123,7 +123,7 @@ fn merged(
     }
 }
 
-/// Whether a replica answers this to a merge of a snapshot, and is as it was where it does not merge.
+/// Whether a replica answers this to a merge of a snapshot, and is as it was if it does not merge.
 fn merges(
     rt: &HostRuntime,
     world: &mut World,
@@ -163,7 +163,7 @@ fn is_small(world: &World, kept: usize) -> bool {
     }
 }
 
-/// Whether this is the answer: None where memory was refused before it.
+/// Whether this is the answer: None if memory was refused before it.
 fn is_answer(
     answer: Option<Result<Taken, TakeError>>,
     wanted: Result<Taken, TakeError>,
@@ -182,7 +182,7 @@ fn sees(all: &[Replica], place: usize, fact: &Fact) -> bool {
     }
 }
 
-/// Whether a step of talk comes out, or any other one: None where memory was refused.
+/// Whether a step of talk comes out, or any other one: None if memory was refused.
 fn comes_out(rt: &HostRuntime, world: &mut World, step: &Step) -> Option<bool> {
     let all = &mut world.all;
     match step {
@@ -260,7 +260,7 @@ fn failures(rt: &HostRuntime, world: &mut World, scripts: &[&[Step]]) -> Option<
     None
 }
 
-/// Plays scripts, one after the other, with the same replicas: None where each step comes out, else the places of the
+/// Plays scripts, one after the other, with the same replicas: None if each step comes out, else the places of the
 /// first script and of its first step that do not.
 pub fn play(rt: &HostRuntime, scripts: &[&[Step]]) -> Option<(usize, usize)> {
     let mut world = World {
@@ -280,7 +280,7 @@ pub fn play_each(rt: &HostRuntime, scripts: &[&[Step]]) -> Option<(usize, usize)
     None
 }
 
-/// Plays lists of scripts, each with replicas of its own: None where all come out, else the place of the first list that
+/// Plays lists of scripts, each with replicas of its own: None if all come out, else the place of the first list that
 /// does not, with that of its script and of its step.
 pub fn play_all(rt: &HostRuntime, cases: &[&[&[Step]]]) -> Option<(usize, (usize, usize))> {
     for i in 0..cases.len() {

@@ -10,10 +10,10 @@ pub fn figures(tally: Tally) -> (u64, u64, u128) {
 /// Registers of a vertex, and how many of them are 0.
 pub type Counter<'a> = (&'a [u8], u32);
 
-/// What is told of a vertex: its registers, those accumulated, its figures, and whether it changed.
+/// What is shown of a vertex: its registers, those accumulated, its figures, and whether it changed.
 pub type Vertex<'a> = (Counter<'a>, &'a [u8], (u64, u64, u128), bool);
 
-/// What is told of a vertex, where it is one of the partition.
+/// What is shown of a vertex, if it is one of the partition.
 pub fn vertex_of<S: Shown>(shown: &S, x: u32) -> Option<Vertex<'_>> {
     if !shown.owns(x) {
         return None;
@@ -41,10 +41,10 @@ fn has_same_figures(left: &[Tally], right: &[Tally]) -> bool {
     same
 }
 
-/// What is told of a level: the plan, the partition, the superstep, the number of changed vertices, and the verdict.
+/// What is shown of a level: the plan, the partition, the superstep, the number of changed vertices, and the verdict.
 type Level = (Plan, u16, u32, u32, Option<Verdict>);
 
-/// What is told of the level.
+/// What is shown of the level.
 fn level_of<S: Shown>(shown: &S) -> Level {
     let plan = *shown.plan();
     let changed = shown.changed_count();
@@ -67,10 +67,10 @@ fn names_of<S: Shown>(shown: &S) -> u32 {
     names
 }
 
-/// What is told of what was heard: the least source that is missing, whether a change is, the sources, and the names.
+/// What is shown of what was heard: the least source that is missing, whether a change is, the sources, and the names.
 type Heard = (Option<u16>, bool, SourceMask, u32);
 
-/// What is told of it.
+/// What is shown of what was heard.
 fn heard_of<S: Shown>(shown: &S) -> Heard {
     let change = shown.heard_change();
     (shown.missing(), change, shown.heard(), names_of(shown))

@@ -15,7 +15,7 @@ const PATH: Job = Job {
 };
 
 /// A replica goes on to superstep 4. Its snapshots of supersteps 0, 2 and 3 are held all along. That of superstep 1 is
-/// let go, so once it goes on in a table that it showed before, and else in room that was taken.
+/// dropped, so once it goes on in a table that it showed before, and else in room that was taken.
 const GOES_ON: [Step; 11] = [
     Add(PATH),
     Keep(0, None),

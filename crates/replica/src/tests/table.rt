@@ -23,7 +23,7 @@ fn shares_one(
     Some(told(&batch) == wanted)
 }
 
-/// Whether a replica tells partitions 1 and 2 this over it: None where memory was refused.
+/// Whether a replica tells partitions 1 and 2 this over it: None if memory was refused.
 fn shares_both(
     rt: &HostRuntime,
     from: &Replica,

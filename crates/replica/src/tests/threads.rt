@@ -79,8 +79,8 @@ struct Found {
     marks: Vec<bool>,
 }
 
-/// What the first rows of a part become where each is raised by those of its predecessors, in blocks that are halved so
-/// often; none where memory was refused.
+/// What the first rows of a part become as each is raised by those of its predecessors, in blocks that are halved so
+/// often; none if memory was refused.
 fn pulled<R: Threads + Sync>(
     rt: &R,
     alloc: Global,

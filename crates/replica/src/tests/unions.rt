@@ -1,4 +1,4 @@
-//! Joins of replicas at two places. Where a call tells None, memory was refused.
+//! Joins of replicas at two places. If a call tells None, memory was refused.
 
 use super::*;
 
@@ -16,7 +16,7 @@ fn both(all: &mut [Replica], left: usize, right: usize) -> Option<(&mut Replica,
     }
 }
 
-/// What comes of a call that can be refused memory alone: None where it was.
+/// What comes of a call that can be refused memory alone: None if it was.
 fn comes_of(answer: Result<(), AllocError>) -> Option<bool> {
     match answer {
         Ok(()) => Some(true),

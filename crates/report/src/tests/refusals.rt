@@ -20,7 +20,7 @@ vertex,c,12.417153,0.751274,0.538737,83.065637,13
 // The answer, how many bytes were written, and whether they are a beginning of the report.
 type Written = (Option<Result<(), ReportError>>, usize, bool);
 
-// The report of replicas in a writer that fails at a call: None where there is no memory for the writer.
+// The report of replicas in a writer that fails at a call: None if there is no memory for the writer.
 fn front<H: AllocGlobal + Threads + Sync>(
     rt: &H,
     graph: &Graph,

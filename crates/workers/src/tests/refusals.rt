@@ -26,8 +26,8 @@ fn nodes_whose_memory_is_refused(rt: HostRuntime) {
     assert!(rt; is_done(&rt, None) && is_done(&rt, Some(2)));
 }
 
-/// What is seen of a run of the two edges in one partition, which one thread reads, where a call of the reader and one of
-/// the writer may fail.
+/// What is seen of a run of the two edges in one partition, which one thread reads, while a call of the reader and one
+/// of the writer may fail.
 fn seen_there<R: AllocGlobal + RandomSource + Threads + Wait + Sync>(
     rt: &R,
     read_fails: Option<u64>,
@@ -61,8 +61,8 @@ fn a_run_whose_memory_is_refused(rt: HostRuntime) {
     assert!(rt; first == WHOLE || again);
 }
 
-/// Which call of the reader and of the writer fails, and what is seen then. The edge list is read by three calls: one for
-/// its bytes, and two that find no more. The report is written by two: one for what stands before the vertices, and one
+/// Which call of the reader and of the writer fails, and what is seen then. The edge list is read by three calls: one
+/// for its bytes, and two that find no more. The report is written by two: one for what is before the vertices, and one
 /// for them.
 static FAILING: [(Option<u64>, Option<u64>, Seen); 7] = [
     (Some(1), None, UNREAD),

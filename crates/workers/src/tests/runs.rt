@@ -17,7 +17,7 @@ vertex,b,11.780376,0.665022,1.503709,208.680703,14
 vertex,c,12.417153,0.751274,0.538737,83.065637,13
 ";
 
-/// What is asked of a run, as plain data, and what it reads. Orders are lent, so nothing has to be let go.
+/// What is asked of a run, as plain data, and what it reads. Orders are lent, so nothing has to be dropped.
 #[derive(Clone, Copy)]
 pub struct Asked<'a> {
     pub input: &'a [u8],
@@ -55,7 +55,7 @@ pub const USUAL: Asked<'static> = Asked {
     restart: &[],
 };
 
-/// What is asked, as the options of a run; None where memory was refused.
+/// What is asked, as the options of a run; None if memory was refused.
 pub fn options_of(alloc: Global, asked: &Asked) -> Option<RunOptions> {
     let lose = asked.lose.to_vec(alloc).ok()?;
     let restart = asked.restart.to_vec(alloc).ok()?;
@@ -82,7 +82,7 @@ pub fn node(part: u16, replica: u8) -> NodeId {
     NodeId { part, replica }
 }
 
-/// A run by these options, whose report goes to the writer, and where a call of the reader may fail.
+/// A run by these options, whose report goes to the writer, while a call of the reader may fail.
 fn run_into<R: AllocGlobal + RandomSource + Threads + Wait + Sync, G: Gate + Sync>(
     rt: &R,
     asked: &Asked,
@@ -125,8 +125,8 @@ fn written_in(bytes: &[u8], report: &[u8]) -> Written {
 /// What a run answers, and what is written of the report.
 pub type Seen = (Result<(), RunError>, Written);
 
-/// What is seen of a run where a call of the reader and a call of the writer may fail: want of memory where it was
-/// refused before.
+/// What is seen of a run while a call of the reader and a call of the writer may fail: want of memory if it was refused
+/// before.
 pub fn seen<R: AllocGlobal + RandomSource + Threads + Wait + Sync, G: Gate + Sync>(
     rt: &R,
     asked: &Asked,
@@ -146,7 +146,7 @@ pub fn seen<R: AllocGlobal + RandomSource + Threads + Wait + Sync, G: Gate + Syn
     (answer, written_in(&bytes, report))
 }
 
-/// Whether a run answers so, and writes just the report, or nothing where it fails.
+/// Whether a run answers so, and writes just the report, or nothing if it fails.
 pub fn ends_so<R: AllocGlobal + RandomSource + Threads + Wait + Sync, G: Gate + Sync>(
     rt: &R,
     asked: &Asked,
@@ -162,7 +162,7 @@ pub fn ends_so<R: AllocGlobal + RandomSource + Threads + Wait + Sync, G: Gate + 
 }
 
 /// A gate that holds each node's first post until so many nodes have come to theirs. A node that has waited for too
-/// many turns gives up, which is remembered: where all nodes are worked on by one thread, the first of them does.
+/// many turns gives up, which is remembered: if all nodes are worked on by one thread, the first of them does.
 #[derive(Drop)]
 struct Rendezvous {
     nodes: u32,
@@ -222,7 +222,7 @@ impl Gate for Rendezvous {
         thread::yield_now();
     }
 
-    // Where a node gave up nobody waits any more.
+    // If a node gave up nobody waits any more.
     fn wait_for(&self, node: NodeId, _source: u16) -> bool {
         self.idle(node);
         self.gave_up.load(Ordering::SeqCst) == 0

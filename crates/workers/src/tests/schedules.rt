@@ -115,7 +115,7 @@ impl Orders {
     }
 }
 
-// A superstep at random, which may be behind the end.
+// A superstep at random, which may be after the end.
 fn any_superstep(state: &mut u64) -> u32 {
     (next(state) % 7) as u32
 }

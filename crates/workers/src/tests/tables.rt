@@ -21,8 +21,8 @@ fn replica_of_two_edges(rt: &HostRuntime) -> Option<Replica> {
     Replica::new(alloc, part).ok()
 }
 
-/// The second and the third table of the two edges, where somebody else still has the first one when the second is made, or
-/// nobody does. When the third is made nobody has either.
+/// The second and the third table of the two edges: somebody else still has the first one when the second is made, or
+/// nobody has. When the third is made nobody has either.
 fn later_tables(rt: &HostRuntime, is_held: bool) -> Option<(Size, Size)> {
     let alloc = rt.alloc();
     let mut replica = replica_of_two_edges(rt)?;
@@ -39,7 +39,7 @@ fn later_tables(rt: &HostRuntime, is_held: bool) -> Option<(Size, Size)> {
     Some((second, third))
 }
 
-/// The third table and the fourth, where somebody else has the first two until the third is made.
+/// The third table and the fourth, if somebody else has the first two until the third is made.
 fn last_tables(rt: &HostRuntime) -> Option<(Size, Size)> {
     let alloc = rt.alloc();
     let mut replica = replica_of_two_edges(rt)?;
@@ -56,7 +56,7 @@ fn last_tables(rt: &HostRuntime) -> Option<(Size, Size)> {
     Some((third, fourth))
 }
 
-/// The third table and the fourth, where somebody else has the first two until the third is made, and the third when the
+/// The third table and the fourth, if somebody else has the first two until the third is made, and the third when the
 /// fourth is made.
 fn tables_after_two_free(rt: &HostRuntime) -> Option<(Size, Size)> {
     let alloc = rt.alloc();

@@ -1,4 +1,4 @@
-//! What a gate is told of a run, if it also watches.
+//! What a gate hears of a run, if it also watches.
 
 use super::runs::{USUAL, options_of};
 use super::*;
@@ -6,7 +6,7 @@ use ball_model::{MemReader, MemWriter};
 use edgelist::Watch;
 use std::sync::atomic::AtomicU64;
 
-/// A gate that notes the numbers that it is told, a digit each, one after the other.
+/// A gate that notes the numbers that it is called with, a digit each, one after the other.
 #[derive(Drop)]
 struct Digits {
     all: AtomicU64,
@@ -46,7 +46,7 @@ impl Watch for Digits {
     }
 }
 
-/// What such a gate is told of a run of the two edges by one node, where it is watched or not.
+/// What such a gate hears of a run of the two edges by one node, by `run_watched` or by `run`.
 fn told_of<R: AllocGlobal + RandomSource + Threads + Wait + Sync>(
     rt: &R,
     watched: bool,

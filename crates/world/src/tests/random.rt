@@ -119,7 +119,7 @@ struct Seen {
 }
 
 impl Seen {
-    // One more script, by what a replay told and wrote.
+    // One more script, by what a replay answered and wrote.
     fn and(self, script: &[u8], told: Result<(), ReplayError>, answers: &[u8]) -> Seen {
         let mut all = self;
         if told == Ok(()) {

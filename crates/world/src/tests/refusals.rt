@@ -37,7 +37,7 @@ fn mark_names(mark: u64, replica: &Replica) -> u64 {
     all
 }
 
-// A mark with the registers of a vertex, where a replica owns it.
+// A mark with the registers of a vertex, if a replica owns it.
 fn mark_row(mark: u64, replica: &Replica, x: u32) -> u64 {
     let mut all = mark;
     if replica.owns(x) {
@@ -75,8 +75,8 @@ fn mark_of_world(world: &World) -> u64 {
     mark
 }
 
-// What an event answers; where memory is refused, what it answers when it is given again. None where the state was
-// changed by what was refused, or memory is refused twice.
+// What an event answers; if memory is refused, what it answers when it is given again. None if the state was changed by
+// what was refused, or memory is refused twice.
 fn answered(world: &mut World, alloc: Global, event: Event) -> Option<Result<Answer, WorldError>> {
     let before = mark_of_world(world);
     let first = world.apply(alloc, event);
@@ -116,7 +116,7 @@ fn after_node(text: &[u8]) -> &[u8] {
     rest
 }
 
-// What follows the lines of what an event came to, where these are the first. There is room in the line.
+// What follows the lines of what an event came to, if these are the first. There is room in the line.
 fn after_outcome<'a>(
     line: &mut Vec<u8>,
     outcome: Result<Answer, WorldError>,
@@ -149,7 +149,7 @@ fn are_answered(
     Some(rest.is_empty())
 }
 
-// Whether the events of a script are answered so: None where memory is refused before the first event.
+// Whether the events of a script are answered so: None if memory is refused before the first event.
 fn goes_on(rt: &HostRuntime, worked: &Worked) -> Option<bool> {
     let mut line = Vec::with_capacity(rt.alloc(), 128).ok()?;
     let mut world = world_of(rt, worked.edges, worked.parts, worked.replicas)?;
@@ -177,7 +177,8 @@ fn events_whose_memory_is_refused(rt: HostRuntime) {
     assert!(rt; all_go_on(&rt));
 }
 
-// A replay of a beginning of a script: what it told, how much it wrote, and whether that is a beginning of the answers.
+// A replay of a beginning of a script: what it answered, how much it wrote, and whether that is a beginning of the
+// answers.
 #[derive(Clone, Copy)]
 struct Written {
     told: Result<(), ReplayError>,

@@ -113,7 +113,7 @@ fn turn(bytes: &mut [u8], place: usize) {
     }
 }
 
-/// Whether what partition 1 tells of superstep 0 is read and not taken where that byte of its digest is another one.
+/// Whether what partition 1 tells of superstep 0 is read and not taken if that byte of its digest is another one.
 fn is_of_another_job(
     rt: &HostRuntime,
     world: &World,
@@ -153,7 +153,7 @@ fn is_so(rt: &HostRuntime, world: &World, node: &mut Node) -> Option<(bool, bool
     Some((closed, comes_back(rt, node, &early)))
 }
 
-/// The same of a node at its start.
+/// Whether a node at its start closes over the untrue batches, and what comes of them is there again after a restart.
 fn story(rt: &HostRuntime, node: &mut Node) -> Option<(bool, bool)> {
     let world = world_of(rt, TWO_EDGES, 2, 1)?;
     is_so(rt, &world, node)

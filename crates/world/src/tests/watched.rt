@@ -1,4 +1,4 @@
-//! What a watch is told of a replay.
+//! What a watch is called with by a replay.
 
 use super::replays::options;
 use crate::replay::{ReplayError, replay_watched};
@@ -8,14 +8,14 @@ use std::alloc::AllocGlobal;
 use std::hash::RandomState;
 use std::sync::atomic::{AtomicU64, Ordering};
 
-// The numbers of its calls, a digit each, one behind the other.
+// The numbers of its calls, a digit each, one after the other.
 #[derive(Drop)]
 struct Digits {
     all: AtomicU64,
 }
 
 impl Digits {
-    // Puts a number behind those before it.
+    // Puts a number after those before it.
     fn put(&self, number: u64) {
         let before = self.all.load(Ordering::SeqCst);
         self.all.store(
@@ -57,7 +57,7 @@ close 1.0
 // Three records of the two edges, one of them twice.
 const THREE_RECORDS: &[u8] = b"a\tb\nb\tc\na\tb\n";
 
-// What a replay of the script over two partitions tells, and the digits of what its watch is told.
+// What a replay of the script over two partitions answers, and the digits of what its watch is called with.
 fn watched(rt: &HostRuntime, log2m: u8, script: &[u8]) -> Option<(Result<(), ReplayError>, u64)> {
     let state = RandomState::new(rt).ok()?;
     let mut writer = MemWriter::with_room(rt.alloc(), 4096, None).ok()?;

@@ -29,7 +29,7 @@ fn world_in(rt: &HostRuntime, graph: &Graph, parts: u16, replicas: u8) -> Option
     World::new(rt.alloc(), graph, &plan, replicas).ok()
 }
 
-/// The same of an edge list.
+/// The world of an edge list with tabs.
 pub(crate) fn world_of(rt: &HostRuntime, text: &[u8], parts: u16, replicas: u8) -> Option<World> {
     world_in(rt, &graph_of(rt, text)?, parts, replicas)
 }

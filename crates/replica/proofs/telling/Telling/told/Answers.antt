@@ -1,7 +1,7 @@
 use Rattle.std.proofs.Common.{refl}
 use Rattle.replica.proofs.SentLemmas.Telling.{told_begin}
 use Rattle.replica.proofs.SentLemmas.Told.{told_none}
-use Rattle.replica.proofs.told.Telling.told.Goals as goal
+use Rattle.replica.proofs.telling.Telling.told.Goals as goal
 
 pub loop-k-init : goal.loop-k-init
 loop-k-init c =

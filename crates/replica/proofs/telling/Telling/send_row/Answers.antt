@@ -5,8 +5,8 @@ use Rattle.replica.specs.Progress.{ProgressValue}
 use Rattle.replica.specs.Sent.{TellingValue}
 use Rattle.replica.proofs.SentLemmas.Sent.{sent_above, sent_fits, sent_no, sent_room, sent_yes}
 use Rattle.replica.proofs.SentLemmas.Telling.{Stands, sent_here, sent_next, stands}
-use Rattle.replica.proofs.told.Telling.send_row.Goals as goal
-use Rattle.replica.proofs.told.Telling.send_row.Goals.{After-row}
+use Rattle.replica.proofs.telling.Telling.send_row.Goals as goal
+use Rattle.replica.proofs.telling.Telling.send_row.Goals.{After-row}
 
 at : (c : After-row) → Stands c.args.self.now c.args.k
 at c = stands _ c.args.self.now c.args.k c.self.view_is c.self.invariant c.requires.below

@@ -4,7 +4,7 @@ use Rattle.replica.specs.Progress.{ProgressValue}
 use Rattle.replica.specs.Sent.{TellingValue}
 use Rattle.replica.proofs.SentLemmas.Told.{counted, sent_same, told_fed, told_few}
 use Rattle.replica.proofs.SentLemmas.Telling.{stands, told_here, told_next}
-use Rattle.replica.proofs.told.Telling.tell_row.Goals as goal
+use Rattle.replica.proofs.telling.Telling.tell_row.Goals as goal
 
 pub overflow_add-told : goal.overflow_add-told
 overflow_add-told c =

@@ -1,4 +1,4 @@
-//! What a partition is told of a superstep.
+//! What a partition is sent of a superstep.
 
 ghost use Rattle.std.specs.Prelude.{◌≡◌, ◌+◌, ◌<◌, length, slice_index_or, IfOk, OnOk};
 ghost use Rattle.ball_model.specs.Masks.{has_bit};
@@ -9,7 +9,7 @@ use batches::Batch;
 use std::alloc::{AllocError, Global};
 use std::marker::Model;
 
-/// What is told, as vertices and the places of their rows among those that changed, and how many of the vertices so far
+/// What is sent, as vertices and the places of their rows among those that changed, and how many of the vertices so far
 /// changed.
 #[derive(Drop)]
 pub struct ToldVertices {
@@ -18,7 +18,7 @@ pub struct ToldVertices {
     pub changed: u32,
 }
 
-/// What the partition `target` is told: those of the vertices that changed that have an edge into it.
+/// What the partition `target` is sent: those of the vertices that changed that have an edge into it.
 #[derive(Drop)]
 pub struct Telling<'a> {
     pub progress: &'a Progress,
@@ -42,7 +42,7 @@ impl<'a> Model for Telling<'a> {
 }
 
 impl<'a> Telling<'a> {
-    /// What is told, with the places of the rows.
+    /// What is sent, with the places of the rows.
     pub fn told(&self, alloc: Global) -> Result<ToldVertices, AllocError>
         ensures { IfOk result (λ told. IsTold self.now.state self.now.target
             (length self.now.state.part.preds) told.ids.items told.places.items told.changed) }
@@ -59,7 +59,7 @@ impl<'a> Telling<'a> {
         Ok(told)
     }
 
-    /// How many of the vertices are told.
+    /// How many of the vertices are sent.
     pub fn count(&self) -> u32 {
         let mut count = 0u32;
         for k in 0..self.vertices.len() {
@@ -70,7 +70,7 @@ impl<'a> Telling<'a> {
         count
     }
 
-    /// Adds the rows of what is told to a batch with none.
+    /// Adds to a batch with no rows those that are sent.
     pub fn send_rows(&self, batch: &mut Batch) -> Result<(), AllocError>
         requires { batch.old ≡ sent_batch self.now.state self.now.target 0 }
         ensures { OnOk result (batch.new ≡
@@ -82,7 +82,7 @@ impl<'a> Telling<'a> {
         Ok(())
     }
 
-    // Counts vertex k of those that changed, and adds it and the place of its row where it is told.
+    // Counts vertex k of those that changed, and adds it and the place of its row if it is sent.
     fn tell_row(&self, told: &mut ToldVertices, k: usize) -> Result<(), AllocError>
         requires below { k < length self.now.vertices }
         requires so_far { IsToldBefore self.now k
@@ -101,7 +101,7 @@ impl<'a> Telling<'a> {
         Ok(())
     }
 
-    // Adds the row of vertex k of those that changed where it is told.
+    // Adds the row of vertex k of those that changed, if it is sent.
     fn send_row(&self, batch: &mut Batch, k: usize) -> Result<(), AllocError>
         requires below { k < length self.now.vertices }
         requires so_far { batch.old ≡
@@ -117,7 +117,7 @@ impl<'a> Telling<'a> {
         Ok(())
     }
 
-    // Whether vertex k of those that changed is told.
+    // Whether vertex k of those that changed is sent.
     #[inline]
     fn feeds(&self, k: usize) -> bool
         requires { k < length self.now.vertices }

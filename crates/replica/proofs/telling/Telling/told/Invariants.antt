@@ -1,5 +1,5 @@
 use Rattle.replica.specs.Sent.{IsToldBefore}
-use Rattle.replica.proofs.told.Telling.told.Given as goal
+use Rattle.replica.proofs.telling.Telling.told.Given as goal
 
 abbrev pub invariant-loop-k : goal.invariant-loop-k
 invariant-loop-k l = IsToldBefore l.self l.k l.told.ids.items l.told.places.items l.told.changed

@@ -3,7 +3,7 @@ use Rattle.replica.proofs.Names.{PartValue}
 use Rattle.replica.specs.Progress.{ProgressValue}
 use Rattle.replica.specs.Sent.{TellingValue}
 use Rattle.replica.proofs.SentLemmas.Changed.{changed_at}
-use Rattle.replica.proofs.told.Telling.feeds.Goals as goal
+use Rattle.replica.proofs.telling.Telling.feeds.Goals as goal
 
 pub feeds-requires : goal.feeds-requires
 feeds-requires c =
