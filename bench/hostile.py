@@ -423,6 +423,7 @@ REFUSED_CALLS = (
     ("batches", "refusals::calls_where_memory_is_refused"),
     ("edgelist", "refusals::calls_where_memory_is_refused"),
     ("replica", "refusals::calls_where_memory_is_refused"),
+    ("replica", "threads::indexes_whose_memory_is_refused"),
     ("checkpoint", "refusals::calls_where_memory_is_refused"),
     ("checkpoint", "refusals::writing_asks_for_no_memory"),
     ("report", "refusals::calls_where_memory_is_refused"),

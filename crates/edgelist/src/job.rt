@@ -21,6 +21,7 @@ use crate::read::{
     read_large_edge_list,
 };
 use crate::rounds::{PIECE, Rounds};
+use crate::sequential::Sequential;
 use crate::watch::Watch;
 use ball_model::{CountedRead, Estimate, Plan, PlanError};
 use std::alloc::{AllocGlobal, Global};
@@ -145,8 +146,7 @@ impl JobOptions {
     }
 
     /// Reads the edge list as [`JobOptions::read_edges`] does, by as many threads as work on the job. One adds records, and
-    /// tells the watch how many there are so far; the others cut lines into fields. One thread alone tells the watch
-    /// nothing.
+    /// tells the watch how many there are so far; the others cut lines into fields.
     ///
     /// Several threads ask for up to two rounds of pieces, some MiB, beyond the record that is refused, and the refusal
     /// waits for them. If a call of the reader fails there, `Read` is answered. A line is held whole, a comment too.
@@ -169,14 +169,20 @@ impl JobOptions {
             result ≡ Err EdgeError.Read }
     {
         let threads = self.threads_for(rt);
+        let (delimiter, limits) = (self.delimiter, self.limits());
         if threads < 2 {
-            return self.read_edges(rt.alloc(), state, reader);
+            let sequential = Sequential {
+                watch,
+                delimiter,
+                limits,
+            };
+            return sequential.read(rt.alloc(), state, reader);
         }
         let rounds = Rounds {
             rt,
             watch,
-            delimiter: self.delimiter,
-            limits: self.limits(),
+            delimiter,
+            limits,
             size: PIECE,
             threads,
         };

@@ -41,6 +41,7 @@ mod reading;
 mod records;
 mod rounds;
 mod row;
+mod sequential;
 mod sort;
 mod watch;
 

@@ -1,29 +1,21 @@
 //! Reading edge lists.
 
-ghost use Rattle.std.specs.Prelude.{◌≡◌, ◌≢◌, ◌≤◌, ◌<◌, Result, true, false, length};
-ghost use Rattle.std.specs.Prelude.{Ok, Err, IfOk, IfErr, OnErr};
-ghost use Rattle.std.specs.Io.KnownBytes.{ReadConsumes};
-ghost use Rattle.std.specs.Io.{ReadsAtMost};
+ghost use Rattle.std.specs.Prelude.{◌≡◌, ◌≢◌, ◌<◌, Result, true, false, length};
+ghost use Rattle.std.specs.Prelude.{Ok, Err, IfOk, IfErr};
 ghost use Rattle.csv.specs.Reading.{is_io, error_kind};
-ghost use Rattle.ball_model.specs.PlanValue.{most_vertices};
-ghost use Rattle.ball_model.specs.Input.{Network, Refusal, most_records, network_from, records};
+ghost use Rattle.ball_model.specs.Input.{Network, Refusal, records};
 ghost use Rattle.edgelist.specs.declared.read.EdgeError.TheVariants.{Memory};
-ghost use Rattle.edgelist.specs.Records.{ForPlain, FromStart};
-ghost use Rattle.edgelist.specs.Reading.{byte_of, limits_of, meaning_of, meaning_within, CountsOne};
-ghost use Rattle.edgelist.specs.Reading.{AreWithin, EndsAtEnd, EndsAtFault, large_meaning_of};
-ghost use Rattle.edgelist.specs.Reading.{IsReadBy, Refuses, edge_error};
+ghost use Rattle.edgelist.specs.Records.{ForPlain};
+ghost use Rattle.edgelist.specs.Reading.{CountsOne, Refuses, byte_of, edge_error};
+ghost use Rattle.edgelist.specs.Reading.{large_meaning_of, meaning_of};
 
 use crate::graph::Graph;
-use crate::reading::Reading;
-use crate::records::reader_of;
-use crate::row::{AT_ONCE, Row, rows_for};
+use crate::sequential::Sequential;
+use crate::watch::Unwatched;
 use ball_model::CountedRead;
 use ball_model::plan::{MOST_VERTICES, USUAL_VERTICES};
-use csv::Reader;
 use std::alloc::{AllocError, Global};
 use std::hash::RandomState;
-use std::io;
-use std::io::{ErrorKind, Read};
 use thiserror::Error;
 
 /// Why an edge list is refused.
@@ -112,99 +104,6 @@ pub struct EdgeList {
     pub records: u64,
 }
 
-// Reads all records that are left, and tells how many they were.
-fn read_records<R: Read + Drop>(
-    alloc: Global,
-    state: RandomState,
-    reader: &mut Reader<R>,
-    rows: &mut [Row],
-    limits: EdgeLimits,
-) -> Result<(Reading, u64), EdgeError>
-    requires rows { 0 < length rows.old }
-    requires few { limits.edges ≤ most_records }
-    ensures within { IfOk result (λ both.
-        AreWithin limits.vertices limits.edges both.0.labels both.0.edges.items) }
-    ensures ok { FromStart R.remaining reader.old (λ rs. IfOk result (λ both.
-        IsReadBy limits rs both.0.labels both.0.edges.items)) }
-    ensures count { FromStart R.remaining reader.old (λ rs.
-        IfOk result (λ both. both.1 ≡ length rs)) }
-    ensures refused { FromStart R.remaining reader.old (λ rs.
-        IfErr result (Refuses (network_from (limits_of limits) rs))) }
-    ensures last { EndsAtEnd R.remaining reader.old reader.new result }
-    ensures ends { EndsAtFault R.remaining reader.old reader.new (limits_of limits) result }
-{
-    let mut reading = Reading::new(alloc, state)?;
-    let read = reading.read_more(alloc, reader, rows, 0, limits);
-    read.map(|number| (reading, number))
-}
-
-// Reads all records of a source, and tells how many they are.
-fn read_source<R: Read + Drop>(
-    alloc: Global,
-    state: RandomState,
-    source: R,
-    delimiter: Delimiter,
-    limits: EdgeLimits,
-) -> Result<(Reading, u64), EdgeError>
-    requires { limits.edges ≤ most_records }
-    ensures within { IfOk result (λ both.
-        AreWithin limits.vertices limits.edges both.0.labels both.0.edges.items) }
-    ensures ok { ForPlain (R.remaining source) (λ text. IfOk result (λ both.
-        IsReadBy limits (records (byte_of delimiter) text) both.0.labels both.0.edges.items)) }
-    ensures count { ForPlain (R.remaining source) (λ text. IfOk result (λ both.
-        both.1 ≡ length (records (byte_of delimiter) text))) }
-    ensures refused { ForPlain (R.remaining source) (λ text.
-        IfErr result (Refuses (meaning_within limits delimiter text))) }
-{
-    let mut reader = reader_of(alloc, source, delimiter);
-    let mut rows = rows_for(alloc, AT_ONCE)?;
-    read_records(alloc, state, &mut reader, &mut rows, limits)
-}
-
-// Reads all records, and makes their graph. It and what it calls are cut small for the checker.
-fn read_graph<R: Read + Drop>(
-    alloc: Global,
-    state: RandomState,
-    reader: R,
-    delimiter: Delimiter,
-    limits: EdgeLimits,
-) -> Result<EdgeList, EdgeError>
-    requires vertices { limits.vertices ≤ most_vertices }
-    requires edges { limits.edges ≤ most_records }
-    ensures ok { ForPlain (R.remaining reader) (λ text.
-        IfOk result (λ list. meaning_within limits delimiter text ≡ Ok list.graph)) }
-    ensures count { ForPlain (R.remaining reader) (λ text. IfOk result (λ list.
-        list.records ≡ length (records (byte_of delimiter) text))) }
-    ensures refused { ForPlain (R.remaining reader) (λ text.
-        IfErr result (Refuses (meaning_within limits delimiter text))) }
-{
-    let (reading, number) = read_source(alloc, state, reader, delimiter, limits)?;
-    reading.into_list(alloc, number)
-}
-
-// A reader as `csv` reads it, each of whose failed calls is counted.
-#[derive(Drop)]
-struct Counted<'a, R: CountedRead> {
-    reader: &'a mut R,
-}
-
-impl<'a, R: CountedRead> Read for Counted<'a, R> {
-    ghost remaining = { λ s. R.remaining s.reader.now };
-
-    fn read(&mut self, buf: &mut [u8]) -> io::Result<usize>
-        ensures bound { ReadsAtMost result buf.new }
-        ensures bytes { ReadConsumes
-            (R.remaining self.old.reader.now) (R.remaining self.new.reader.now) result buf.new }
-        ensures failed { OnErr result (
-            R.failed_calls self.old.reader.now < R.failed_calls self.new.reader.now) }
-    {
-        match self.reader.get(buf) {
-            Some(n) => Ok(n),
-            None => Err(io::Error::from(ErrorKind::Other)),
-        }
-    }
-}
-
 // What is answered of an edge list that was read: `Read` if a call of the reader failed, and at no other time.
 pub(crate) fn read_answer(
     read: Result<EdgeList, EdgeError>,
@@ -225,41 +124,6 @@ pub(crate) fn read_answer(
         Err(EdgeError::Read) => Err(EdgeError::Memory),
         Err(e) => Err(e),
     }
-}
-
-// Reads an edge list under these limits, and answers `Read` if a call of the reader failed.
-fn read_counted<R: CountedRead>(
-    alloc: Global,
-    state: RandomState,
-    reader: &mut R,
-    delimiter: Delimiter,
-    limits: EdgeLimits,
-) -> Result<EdgeList, EdgeError>
-    requires vertices { limits.vertices ≤ most_vertices }
-    requires edges { limits.edges ≤ most_records }
-    ensures ok { ForPlain (R.remaining reader.old) (λ text.
-        IfOk result (λ list. meaning_within limits delimiter text ≡ Ok list.graph)) }
-    ensures count { ForPlain (R.remaining reader.old) (λ text. IfOk result (λ list.
-        list.records ≡ length (records (byte_of delimiter) text))) }
-    ensures refused { ForPlain (R.remaining reader.old) (λ text.
-        IfErr result (Refuses (meaning_within limits delimiter text))) }
-    ensures read { result ≡ Err EdgeError.Read →
-        R.failed_calls reader.old < R.failed_calls reader.new }
-    ensures failed { CountsOne (R.failed_calls reader.old) (R.failed_calls reader.new) →
-        result ≡ Err EdgeError.Read }
-{
-    let before = reader.failures();
-    let result = read_graph(
-        alloc,
-        state,
-        Counted {
-            reader: &mut *reader,
-        },
-        delimiter,
-        limits,
-    );
-    let failed = reader.failures() > before;
-    read_answer(result, failed)
 }
 
 /// Reads an edge list, and numbers its labels from 0 by first appearance, a record's first field first.
@@ -297,7 +161,12 @@ pub fn read_edge_list<R: CountedRead>(
         vertices: limits.vertices.min(USUAL_VERTICES),
         edges: limits.edges.min(USUAL_RECORDS),
     };
-    read_counted(alloc, state, reader, delimiter, limits)
+    let sequential = Sequential {
+        watch: &Unwatched,
+        delimiter,
+        limits,
+    };
+    sequential.read(alloc, state, reader)
 }
 
 /// Reads a large edge list as [`read_edge_list`] reads others, but for the limits: those in force are never above 2^31
@@ -324,7 +193,12 @@ pub fn read_large_edge_list<R: CountedRead>(
         vertices: limits.vertices.min(MOST_VERTICES),
         edges: limits.edges.min(MOST_RECORDS),
     };
-    read_counted(alloc, state, reader, delimiter, limits)
+    let sequential = Sequential {
+        watch: &Unwatched,
+        delimiter,
+        limits,
+    };
+    sequential.read(alloc, state, reader)
 }
 
 /// Reads an edge list as [`read_edge_list`] does, and gives its graph alone. For a library's user: the program does not

@@ -25,7 +25,9 @@ use crate::numbering::{LabelWord, Numbering};
 use crate::read::{Delimiter, EdgeError, EdgeLimits, EdgeList};
 use crate::records::reader_of;
 use crate::row::Row;
+use crate::sequential::Sequential;
 use crate::sort::sort_parts;
+use crate::watch::{Unwatched, Watch};
 use csv::Reader;
 use std::alloc::{AllocError, AllocGlobal, Global};
 use std::hash::RandomState;
@@ -419,46 +421,52 @@ impl Reading {
 }
 
 impl Reading {
-    // Adds all records that are left, which follow `number` others, some at a time, and tells how many there are
-    // then; at most one more than the limit is asked for. No record is asked for after the one that is refused. After
-    // the end the reader is as a read leaves it that found no record more; whether such a read was made once or twice
-    // no clause tells (csv's contract says nothing of a reader at its end).
-    pub(crate) fn read_more<R: Read + Drop>(
+    // Adds all records that are left, which follow `number` others, some at a time, and tells how many there are then,
+    // and the watch meanwhile; at most one more than the limit is asked for. No record is asked for after the one that is
+    // refused. After the end the reader is as a read leaves it that found no record more; whether such a read was made
+    // once or twice no clause tells (csv's contract says nothing of a reader at its end).
+    pub(crate) fn read_more<R: Read + Drop, W: Watch>(
         &mut self,
         alloc: Global,
         reader: &mut Reader<R>,
         rows: &mut [Row],
         number: u64,
-        limits: EdgeLimits,
+        how: &Sequential<'_, W>,
     ) -> Result<u64, EdgeError>
         requires rows { 0 < length rows.old }
-        requires few { limits.edges ≤ most_records }
-        requires number { number ≤ limits.edges }
-        requires within { AreWithin limits.vertices number self.old.labels self.old.edges.items }
-        ensures number { IfOk result (λ n. n ≤ limits.edges) }
+        requires few { how.now.limits.edges ≤ most_records }
+        requires number { number ≤ how.now.limits.edges }
+        requires within { AreWithin how.now.limits.vertices number
+            self.old.labels self.old.edges.items }
+        ensures number { IfOk result (λ n. n ≤ how.now.limits.edges) }
         ensures within { IfOk result (λ n.
-            AreWithin limits.vertices n self.new.labels self.new.edges.items) }
+            AreWithin how.now.limits.vertices n self.new.labels self.new.edges.items) }
         ensures ok { FromStart R.remaining reader.old (λ rs. (before : List (List (List ℕ))) →
-            IsThrough (limits_of limits) number before self.old.labels self.old.edges.items →
-            IfOk result (λ n. IsThrough (limits_of limits) n (before ++ rs)
+            IsThrough (limits_of how.now.limits) number before
+            self.old.labels self.old.edges.items →
+            IfOk result (λ n. IsThrough (limits_of how.now.limits) n (before ++ rs)
             self.new.labels self.new.edges.items)) }
         ensures refused { FromStart R.remaining reader.old (λ rs.
             (before more : List (List (List ℕ))) →
-            IsThrough (limits_of limits) number before self.old.labels self.old.edges.items →
-            IfErr result (Refuses (network_from (limits_of limits) (before ++ (rs ++ more))))) }
-        ensures last { (before : List (List (List ℕ))) →
-            IsThrough (limits_of limits) number before self.old.labels self.old.edges.items →
-            EndsAtEnd R.remaining reader.old reader.new result }
-        ensures ends { IsThrough (limits_of limits) number []
+            IsThrough (limits_of how.now.limits) number before
             self.old.labels self.old.edges.items →
-            EndsAtFault R.remaining reader.old reader.new (limits_of limits) result }
+            IfErr result (Refuses (network_from (limits_of how.now.limits)
+            (before ++ (rs ++ more))))) }
+        ensures last { (before : List (List (List ℕ))) →
+            IsThrough (limits_of how.now.limits) number before
+            self.old.labels self.old.edges.items →
+            EndsAtEnd R.remaining reader.old reader.new result }
+        ensures ends { IsThrough (limits_of how.now.limits) number []
+            self.old.labels self.old.edges.items →
+            EndsAtFault R.remaining reader.old reader.new (limits_of how.now.limits) result }
     {
         let mut n = number;
-        for _turn in number..limits.edges + 1 {
-            let (so_far, more) = self.read_some(alloc, reader, rows, n, limits)?;
+        for _turn in number..how.limits.edges + 1 {
+            let (so_far, more) = self.read_some(alloc, reader, rows, n, how.limits)?;
             if !more {
                 return Ok(so_far);
             }
+            how.tell(n, so_far);
             n = so_far;
         }
         Err(EdgeError::TooManyEdges)
@@ -535,7 +543,12 @@ impl Reading {
         ensures read { result ≢ Err EdgeError.Read }
     {
         let mut reader = reader_of(alloc, lines.bytes, lines.delimiter);
-        let read = self.read_more(alloc, &mut reader, rows, number, limits);
+        let how = Sequential {
+            watch: &Unwatched,
+            delimiter: lines.delimiter,
+            limits,
+        };
+        let read = self.read_more(alloc, &mut reader, rows, number, &how);
         without_read(read)
     }
 }

@@ -142,7 +142,7 @@ fn pieces_for(alloc: Global, delimiter: Delimiter, count: usize) -> Result<Vec<P
 #[derive(Drop)]
 pub(crate) struct Rounds<'a, R, W> {
     pub(crate) rt: &'a R,
-    /// It is called after each round with how many records were added so far, once there are some.
+    /// It is called after each round but the last with how many records were added so far, once there are some.
     pub(crate) watch: &'a W,
     pub(crate) delimiter: Delimiter,
     pub(crate) limits: EdgeLimits,

@@ -125,8 +125,9 @@ impl<'a, T: Teller> RunProgress<'a, T> {
 
     // The edge list is to be read, if the other options are in their limits.
     fn note_begin(&self, options: &RunOptions) {
+        let job = options.job();
         if options.are_in_limits()
-            && let Some(news) = foretold(options.log2m, options.parts, options.limit)
+            && let Some(news) = foretold(job.log2m, job.parts, job.limit)
         {
             self.teller.tell(news);
         }

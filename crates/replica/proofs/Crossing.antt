@@ -1,4 +1,4 @@
--- Snapshots, replicas and indexes of parts may cross threads.
+-- Snapshots, replicas, indexes and first tables of parts may cross threads.
 use denote.Param.Send.{IsSend, IsSync, sendable}
 use Rattle.std.proofs.Crossing.{crosses, Arc-send, Arc-sync}
 use Rattle.std.specs.contracts.alloc.Global as Heap
@@ -8,6 +8,7 @@ use Rattle.registers.proofs.Crossing.{rows_send, rows_sync}
 use Rattle.batches.proofs.Crossing.{batch_send, batch_sync}
 use Rattle.edgelist.proofs.Crossing.{part_send, part_sync}
 use Rattle.figures.proofs.Crossing.{estimator_send, estimator_sync, tally_send, tally_sync}
+use Rattle.replica.specs.contracts.first.FirstTables as first
 use Rattle.replica.specs.contracts.progress.Progress as progress
 use Rattle.replica.specs.contracts.replica.Replica as replica
 use Rattle.replica.specs.contracts.replica.Snapshot as snapshot
@@ -54,3 +55,6 @@ shared_snapshot_sync = Arc-sync _ snapshot_send snapshot_sync
 
 pub targets_send : IsSend targets.the_row
 targets_send = search (sendable, crosses) depth 30 fits 20000
+
+pub first_send : IsSend first.the_row
+first_send = search (rows_send, tables_send, estimator_send, sendable, crosses) depth 30 fits 20000

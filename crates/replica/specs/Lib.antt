@@ -8,6 +8,7 @@ pub mod Hearing
 pub mod Change
 pub mod Start
 pub mod Tables
+pub mod First
 pub mod Tallies
 pub mod Seen
 pub mod Sent

@@ -58,8 +58,14 @@ impl Hearing {
     pub fn start(alloc: Global, rows: &Rows) -> Result<Hearing, AllocError>
         ensures { IfOk result (λ h. IsQuiet rows.now h) }
     {
-        let accumulated = copy_rows(alloc, rows)?;
-        let touched = vec![in alloc; false; rows.len()]?;
+        Hearing::quiet(alloc, copy_rows(alloc, rows)?)
+    }
+
+    /// Nothing is heard, and these are the accumulators, equal to the rows.
+    pub fn quiet(alloc: Global, accumulated: Rows) -> Result<Hearing, AllocError>
+        ensures { IfOk result (IsQuiet accumulated) }
+    {
+        let touched = vec![in alloc; false; accumulated.len()]?;
         Ok(Hearing {
             heard: SourceMask::empty(),
             change: false,

@@ -33,12 +33,13 @@
 //! replica.close()                                    // Ok(1), the superstep that it is at now
 //! ```
 //!
-//! Only [`Targets::of`], [`Replica::new`], [`Replica::with_targets`], [`Replica::rebuild`], [`Replica::out`],
-//! [`Replica::changed_rows`], [`Replica::out_of`], [`Replica::snapshot`], [`Replica::merge`] and a join take memory, and
-//! [`Replica::close_by`] that of its threads.
+//! Only the making of [`Targets`], [`FirstTables`] and a [`Replica`], [`Replica::out`], [`Replica::changed_rows`],
+//! [`Replica::out_of`], [`Replica::snapshot`], [`Replica::merge`] and a join take memory, and [`Replica::close_by`] that
+//! of its threads.
 #![tactic(auto)]
 
 mod early;
+mod first;
 mod hearing;
 pub mod laws;
 mod level;
@@ -57,6 +58,7 @@ mod telling;
 mod waiting;
 
 pub use early::LEVELS;
+pub use first::FirstTables;
 pub use progress::Progress;
 pub use replica::out::ChangedRows;
 pub use replica::{Replica, Snapshot};

@@ -7,7 +7,7 @@ mod merge;
 mod read;
 mod step;
 mod step_by;
-mod weights;
+pub(crate) mod weights;
 
 use crate::Shown;
 use crate::early::Early;

@@ -38,10 +38,10 @@ impl Shown for Snapshot {
 
 /// One partition's state at a superstep, and the batches that it holds.
 ///
-/// Its memory is taken when it is made: two rows of 2^log2m bytes, a tally and the weight that its estimate is made of
-/// for each vertex, a slot for each source and each of three supersteps, and a sum for each superstep up to the limit;
-/// and that of [`Targets`], if the index was not made before. If the run is over, [`Replica::give_back`] gives back
-/// that of the index, and one of the two rows if they are equal.
+/// Its memory is taken when it is made, or when its [`Targets`] and [`crate::FirstTables`] are: the index, two rows of
+/// 2^log2m bytes, a tally and the weight that its estimate is made of for each vertex, a slot for each source and each
+/// of three supersteps, and a sum for each superstep up to the limit. If the run is over, [`Replica::give_back`] gives
+/// back that of the index, and one of the two rows if they are equal.
 #[derive(Drop)]
 pub struct Replica {
     // what it has at its superstep: what it tells, and what a snapshot copies, with room to go on

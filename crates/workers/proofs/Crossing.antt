@@ -5,13 +5,13 @@ use Rattle.atomic_table.proofs.shared.Shared.TheSendSync as table
 use Rattle.atomic_table.proofs.send_lease.SendLease.TheSendSync as lease
 use Rattle.board.proofs.Crossing.{seat_send}
 use Rattle.edgelist.proofs.Crossing.{shared_part_send}
-use Rattle.replica.proofs.Crossing.{targets_send}
+use Rattle.replica.proofs.Crossing.{first_send, targets_send}
 use Rattle.workers.specs.contracts.indexed.ReadyPart as ready
 use Rattle.workers.specs.contracts.job.Post as post
 use Rattle.workers.specs.contracts.running.Running as running
 
 ready_part_send : IsSend ready.the_row
-ready_part_send = search (shared_part_send, targets_send, sendable, crosses) depth 30
+ready_part_send = search (shared_part_send, first_send, targets_send, sendable, crosses) depth 30
 
 -- a node's part may be that of other threads too
 pub post_send : IsSend post.the_row

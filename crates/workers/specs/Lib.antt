@@ -3,6 +3,7 @@ pub mod Job
 pub mod Marks
 pub mod Node
 pub mod Options
+pub mod Prepared
 pub mod Run
 pub mod Superstep
 pub mod Tie

@@ -1,5 +1,5 @@
-//! The plan of a run and the parts of its partitions. Parts and their indexes take only the plan's numbers, so its digest
-//! is made while they are.
+//! The plan of a run and the parts of its partitions. Parts, their indexes and the tables of their first replicas take
+//! only the plan's numbers, so its digest is made while they are.
 
 ghost use Rattle.std.specs.Prelude.{◌≡◌, ◌<◌, ◌^◌, ℕ, IfOk};
 ghost use Rattle.ball_model.specs.Job.{Job, digest_of, job_of, part_of};
@@ -21,45 +21,48 @@ pub(crate) struct Planned {
     pub(crate) parts: Vec<ReadyPart>,
 }
 
-// The part of a partition, with its index.
-fn made_part(
-    alloc: Global,
-    graph: &Graph,
-    plan: &Plan,
-    p: u16,
-    feeds: &Feeds,
-) -> Result<IndexedPart, AllocError>
-    requires vertices { plan.now.vertices ≡ graph.now.graph.vertices }
-    requires part { p < plan.now.parts }
-    requires feeds { feeds.now ≡ feeds_of graph.now.graph plan.now.parts }
-    ensures { IfOk result (λ part. part ≡ part_of (job_of graph.now.graph plan.now) p) }
-{
-    IndexedPart::of(alloc, graph.part_with(alloc, plan, p, feeds)?)
+// What makes the parts of a plan over a graph, each by so many threads.
+#[derive(Drop)]
+struct Maker<'a, R> {
+    rt: &'a R,
+    graph: &'a Graph,
+    plan: &'a Plan,
+    threads: usize,
 }
 
-// The parts of all partitions, if there was memory for each, made by a thread of its own if there could be one. The
-// edges are walked over once for the masks of all.
-fn made_parts<R: AllocGlobal + Threads + Sync>(
-    rt: &R,
-    graph: &Graph,
-    plan: &Plan,
-) -> Result<Vec<Result<IndexedPart, AllocError>>, AllocError>
-    requires { plan.now.vertices ≡ graph.now.graph.vertices }
-    ensures { IfOk result (λ parts.
-        AreMade (job_of graph.now.graph plan.now) parts.items) }
-{
-    let alloc = rt.alloc();
-    let feeds = graph.feeds(alloc, plan)?;
-    let feeds = &feeds;
-    let make = |p: usize| -> Result<IndexedPart, AllocError>
-        requires vertices { plan.now.vertices ≡ graph.now.graph.vertices }
-        requires part { p < plan.now.parts }
-        requires few { p < 2 ^ 16 }
-        requires feeds { feeds.now ≡ feeds_of graph.now.graph plan.now.parts }
+impl<'a, R: AllocGlobal + Threads + Sync> Maker<'a, R> {
+    // The part of a partition, with what its first replica begins with.
+    fn part(&self, p: u16, feeds: &Feeds) -> Result<IndexedPart, AllocError>
+        requires vertices { self.now.plan.now.vertices ≡ self.now.graph.now.graph.vertices }
+        requires part { p < self.now.plan.now.parts }
+        requires feeds { feeds.now ≡ feeds_of self.now.graph.now.graph self.now.plan.now.parts }
         ensures { IfOk result (λ part. part ≡
-            part_of (job_of graph.entry.now.graph plan.entry.now) p) }
-    { made_part(alloc, graph, plan, p as u16, feeds) };
-    thread::map_indices(rt, alloc, usize::from(plan.parts()), &make)
+            part_of (job_of self.now.graph.now.graph self.now.plan.now) p) }
+    {
+        let part = self.graph.part_with(self.rt.alloc(), self.plan, p, feeds)?;
+        IndexedPart::of(self.rt, part, self.threads)
+    }
+
+    // The parts of all partitions, if there was memory for each, made by a thread of its own if there could be one. The
+    // edges are walked over once for the masks of all.
+    fn parts(&self) -> Result<Vec<Result<IndexedPart, AllocError>>, AllocError>
+        requires { self.now.plan.now.vertices ≡ self.now.graph.now.graph.vertices }
+        ensures { IfOk result (λ parts.
+            AreMade (job_of self.now.graph.now.graph self.now.plan.now) parts.items) }
+    {
+        let alloc = self.rt.alloc();
+        let feeds = self.graph.feeds(alloc, self.plan)?;
+        let feeds = &feeds;
+        let make = |p: usize| -> Result<IndexedPart, AllocError>
+            requires vertices { self.now.plan.now.vertices ≡ self.now.graph.now.graph.vertices }
+            requires part { p < self.now.plan.now.parts }
+            requires few { p < 2 ^ 16 }
+            requires feeds { feeds.now ≡ feeds_of self.now.graph.now.graph self.now.plan.now.parts }
+            ensures { IfOk result (λ part. part ≡ part_of
+                (job_of self.entry.now.graph.now.graph self.entry.now.plan.now) p) }
+        { self.part(p as u16, feeds) };
+        thread::map_indices(self.rt, alloc, usize::from(self.plan.parts()), &make)
+    }
 }
 
 // A part of the plan with this digest, to be shared.
@@ -91,25 +94,32 @@ fn shared_parts(
     Ok(shared)
 }
 
-/// A plan with its job digest, and the part of each of its partitions.
+/// A plan with its job digest, and the part of each of its partitions, made by so many threads of its own.
 pub(crate) fn plan_parts<R: AllocGlobal + Threads + Sync>(
     rt: &R,
     graph: &Graph,
     bare: &Plan,
+    threads: usize,
 ) -> Result<Planned, AllocError>
     requires { bare.now.vertices ≡ graph.now.graph.vertices }
     ensures plan { IfOk result (λ all. all.plan ≡ signed graph.now.graph bare.now) }
     ensures parts { IfOk result (λ all.
         AreParts (job_of graph.now.graph all.plan) all.parts.items) }
 {
+    let maker = Maker {
+        rt,
+        graph,
+        plan: bare,
+        threads,
+    };
     let digest = || -> [u8; 32]
         ensures { result ≡ digest_of bare.entry.now graph.entry.now.graph }
     { graph.digest(bare) };
     let parts = || -> Result<Vec<Result<IndexedPart, AllocError>>, AllocError>
-        requires { bare.now.vertices ≡ graph.now.graph.vertices }
+        requires { maker.plan.now.vertices ≡ maker.graph.now.graph.vertices }
         ensures { IfOk result (λ parts.
-            AreMade (job_of graph.entry.now.graph bare.entry.now) parts.items) }
-    { made_parts(rt, graph, bare) };
+            AreMade (job_of maker.entry.graph.now.graph maker.entry.plan.now) parts.items) }
+    { maker.parts() };
     let (job, parts) = thread::join(rt, digest, parts);
     let parts = shared_parts(rt.alloc(), parts?, job)?;
     Ok(Planned {

@@ -22,6 +22,7 @@ use crate::gate::{Gate, UnwatchedGate};
 use crate::job::run_job;
 use crate::options::RunOptions;
 use crate::planned::plan_parts;
+use crate::threads::share_of;
 use ball_model::{CountedRead, CountedWrite, CountingWriter, NodeId, Plan, PlanError};
 use edgelist::{CountedError, EdgeError, Graph, NetworkError, Watch};
 use replica::Replica;
@@ -166,10 +167,11 @@ impl<'a, T: AllocGlobal + Threads + Wait + Sync, G: Gate + Watch + Sync> Watched
     {
         let job = self.options.job();
         let bare = job.bare_plan(graph)?;
-        let planned = plan_parts(self.rt, graph, &bare)?;
+        let share = share_of(job.threads_for(self.rt), bare.parts(), 1);
+        let planned = plan_parts(self.rt, graph, &bare, share)?;
         let plan = planned.plan;
         let replicas = run_job(self.rt, graph, planned, self.options, self.gate)?;
-        let threads = usize::from(self.options.threads);
+        let threads = usize::from(job.threads);
         let text = replicas_text(self.rt, graph, &plan, &replicas, threads)?;
         Ok(text)
     }
@@ -278,8 +280,8 @@ pub fn run<T: AllocGlobal + Threads + Wait + Sync, R: CountedRead, W: CountedWri
     run_watched(rt, state, reader, counted, writer, options, &gate)
 }
 
-/// Makes a run as [`run`] says, by a gate that also hears how it gets on: while several threads read the edge list and
-/// once it is read, once each node's first replica is made, and each time a node has gone on.
+/// Makes a run as [`run`] says, by a gate that also hears how it gets on: while the edge list is read and once it is
+/// read, once each node's first replica is made, and each time a node has gone on.
 pub fn run_watched<
     T: AllocGlobal + Threads + Wait + Sync,
     R: CountedRead,

@@ -61,7 +61,7 @@ pub(super) fn records_given(rt: &HostRuntime, text: &[u8]) -> Result<u64, EdgeEr
 }
 
 // Adds the pieces of a text, and tells whether there was room.
-fn push_pieces(text: &mut Vec<u8>, pieces: Pieces<'_>) -> bool {
+pub(super) fn push_pieces(text: &mut Vec<u8>, pieces: Pieces<'_>) -> bool {
     let mut room = true;
     for (piece, count) in pieces {
         for _ in 0..*count {

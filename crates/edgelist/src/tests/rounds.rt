@@ -1,5 +1,6 @@
 //! Edge lists that several threads read, piece by piece.
 
+use super::pieces::push_pieces;
 use super::reading::{CASES, Case};
 use super::{Stepping, TWO_EDGES, TWO_LINES, Told, at_once, hash, shown};
 use crate::rounds::Rounds;
@@ -229,23 +230,36 @@ pub(super) fn job_by(threads: u16) -> JobOptions {
     }
 }
 
-// The number of records of the two edges, and how many the watch was called with last.
+// The number of records of a list, and how many the watch was called with last.
 fn records_by<R: AllocGlobal + Threads + Sync>(
     rt: &R,
     state: RandomState,
+    text: &[u8],
     threads: u16,
 ) -> Option<(u64, Option<u64>)> {
     let watch = Last {
         records: Cell::new(None),
     };
-    let mut reader = CountingReader::new(at_once(TWO_EDGES));
+    let mut reader = CountingReader::new(at_once(text));
     match job_by(threads).read_network_by(rt, &watch, state, &mut reader, None) {
         Ok(read) => Some((read.records, watch.records.get())),
         Err(_) => None,
     }
 }
 
-// These, in pieces of one line each.
+// These of 3,000 records, by one thread.
+fn many_records<R: AllocGlobal + Threads + Sync>(
+    rt: &R,
+    state: RandomState,
+) -> Option<(u64, Option<u64>)> {
+    let mut text = Vec::new(rt.alloc());
+    if !push_pieces(&mut text, &[(b"a\tb\n", 3_000)]) {
+        return None;
+    }
+    records_by(rt, state, &text, 1)
+}
+
+// These of the two edges, in pieces of one line each.
 fn records_in_pieces<R: AllocGlobal + Threads + Sync>(
     rt: &R,
     state: RandomState,
@@ -267,15 +281,16 @@ fn records_in_pieces<R: AllocGlobal + Threads + Sync>(
     }
 }
 
-// One thread tells the watch nothing. More tell it what was added before the last round: nothing if there is one round,
-// and one record if each has a round.
+// One thread tells the watch each time that 1,024 more are added. More threads tell it what was added before the last
+// round: nothing if there is one round, and one record if each has a round.
 #[test]
 fn records_are_told(rt: HostRuntime) {
     let Ok(state) = RandomState::new(&rt) else {
         return;
     };
-    let right = records_by(&rt, state, 1) == Some((2, None))
-        && records_by(&rt, state, 3) == Some((2, None))
+    let right = records_by(&rt, state, TWO_EDGES, 1) == Some((2, None))
+        && many_records(&rt, state) == Some((3_000, Some(2_048)))
+        && records_by(&rt, state, TWO_EDGES, 3) == Some((2, None))
         && records_in_pieces(&rt, state) == Some((2, Some(1)));
     assert!(rt; right);
 }

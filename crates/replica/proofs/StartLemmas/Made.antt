@@ -4,13 +4,14 @@ use Rattle.replica.proofs.Names.{None, arc_value, kept_batches, IsPart, PartValu
 use Rattle.replica.specs.declared.progress.Progress.TheInside as progress
 use Rattle.replica.specs.declared.saved.Saved.{Saved}
 use Rattle.replica.specs.Ahead.{IsTable}
+use Rattle.replica.specs.First.{BeginsAs, FirstValue}
 use Rattle.replica.specs.Hearing.{HearingValue, IsQuiet, KeepsAllOrNone, SaysSame}
 use Rattle.replica.specs.Kept.{AreEarly}
 use Rattle.replica.specs.Level.{differences}
 use Rattle.replica.specs.Progress.{CanGoOn}
 use Rattle.replica.specs.Saved.{Fits, IsKeepable, IsRebuilt}
 use Rattle.replica.specs.Seen.{IsProgress, IsState, progress_of, state_of}
-use Rattle.replica.specs.Start.{Starts}
+use Rattle.replica.specs.Start.{alone, first_row, first_rows_of_part, Starts}
 use Rattle.replica.specs.Tables.{AreFirst, TablesValue}
 use Rattle.replica.proofs.HearingLemmas.Accumulator.{can_go_on, fields_are, fields_of, kept_progress, said_same}
 use Rattle.replica.proofs.MergedLemmas.Merge.{touched_from}
@@ -23,16 +24,27 @@ pub record Begun (r : progress.Inside) : Type 0 where
   pub limits : IsProgress r
   pub starts : Starts (arc_value r.part) (state_of r)
 
-pub begun : (r : progress.Inside) → IsPart (arc_value r.part) → r.superstep ≡ 0 → AreFirst (arc_value r.part) r.tables → IsQuiet r.tables.rows r.hearing → IsTable (arc_value r.part).plan.parts r.early → ((i q : ℕ) → early_at r.early i q ≡ None) → Begun r
-begun r part at first quiet table none =
-    let rows = ap (λ (t : Table). t.rows) first.rows in
-    let width = ap (λ (t : Table). t.width) first.rows in
+pub begun : (r : progress.Inside) (first : FirstValue) → IsPart (arc_value r.part) → r.superstep ≡ 0 → BeginsAs (arc_value r.part) first → r.tables ≡ first.tables → r.hearing ≡ first.hearing → IsTable (arc_value r.part).plan.parts r.early → ((i q : ℕ) → early_at r.early i q ≡ None) → Begun r
+begun r first part at begins tables hearing table none =
+    let here : AreFirst (arc_value r.part) r.tables = subst (λ (a : TablesValue). AreFirst (arc_value r.part) a) (sym tables) begins.tables in
+    let quiet : IsQuiet r.tables.rows r.hearing = rw (tables, hearing) begins.quiet in
+    let width = ap (λ (t : Table). t.width) here.rows in
     let accumulated = ap (λ (t : Table). t.rows) quiet.accumulated in
     let is : Starts (arc_value r.part) (fields_of r) = grind arith in
     record {
       limits = kept_progress r (starts_state (arc_value r.part) (fields_of r) part is) width (ap (λ (t : Table). t.width) quiet.accumulated ∙ width) quiet.kept;
       starts = subst (λ (v : State). Starts (arc_value r.part) v) (fields_are r (ap length accumulated)) is;
     }
+
+-- what a replica begins with is the same under another job digest
+pub begins_signed : (part : PartValue) (job : List ℕ) (first : FirstValue) → BeginsAs part first → BeginsAs (record part { plan = record part.plan { job = job } }) first
+unfolding first_rows_of_part first_row alone
+begins_signed part job first b = record {
+  tables = record { rows = b.tables.rows; marks = b.tables.marks; tallies = b.tables.tallies; sums = b.tables.sums; room = b.tables.room };
+  quiet = b.quiet;
+  measure = b.measure;
+  weights = b.weights;
+}
 
 -- ---- of what a checkpoint tells
 

@@ -12,6 +12,7 @@ ghost use Rattle.ball_model.specs.Batches.{IsTrueBatch};
 ghost use Rattle.ball_model.specs.Content.{Content, is_new, close_of, after_close};
 ghost use Rattle.ball_model.specs.State.{SameShown, StandsFor, content_of, further};
 ghost use Rattle.replica.specs.Change.{HoldsAfter, take_answer};
+ghost use Rattle.replica.specs.First.{BeginsAs};
 ghost use Rattle.replica.specs.Index.{targets_of};
 ghost use Rattle.replica.specs.Level.{EndsRun, found_verdict, missing_in};
 ghost use Rattle.replica.specs.Merged.{AreOfOnePart, TakesIn, HoldsOfBoth, ShowsAs, merge_answer};
@@ -20,12 +21,11 @@ ghost use Rattle.replica.specs.Runs.{HasContent, Takes, Closes, Merges};
 ghost use Rattle.replica.specs.Start.{Starts};
 
 use crate::early::Early;
-use crate::hearing::Hearing;
+use crate::first::FirstTables;
 use crate::progress::is_same;
 use crate::shown::Shown;
-use crate::tables::Tables;
 use crate::targets::Targets;
-use crate::{Progress, Replica, Snapshot, start};
+use crate::{Progress, Replica, Snapshot};
 use ball_model::{CloseError, MergeError, TakeError, Taken};
 use batches::Batch;
 use edgelist::Part;
@@ -62,21 +62,45 @@ impl Replica {
         requires { targets ≡ targets_of (arc_value part) }
         ensures { IfOk result (λ r. Starts (arc_value part) r) }
     {
-        let plan = *part.plan();
+        let first = FirstTables::of(alloc, &part)?;
+        Replica::with_tables(alloc, part, targets, first)
+    }
+
+    /// A replica of the part at superstep 0, by the index of the part and by what a replica of it begins with, which
+    /// were both made before: so it takes next to no time and memory.
+    ///
+    /// The error is that memory was refused; all three are dropped then.
+    pub fn with_tables(
+        alloc: Global,
+        part: Arc<Part>,
+        targets: Targets,
+        first: FirstTables,
+    ) -> Result<Replica, AllocError>
+        requires index { targets ≡ targets_of (arc_value part) }
+        requires first { BeginsAs (arc_value part) first }
+        ensures { IfOk result (λ r. Starts (arc_value part) r) }
+    {
         // the limits of a part come with its number
-        prove!(part.partition() < plan.parts());
-        let estimator = start::estimator_of(alloc, &plan)?;
-        let tables = Tables::start(alloc, &part, &estimator)?;
-        let hearing = Hearing::start(alloc, tables.rows())?;
-        let early = Early::empty(alloc, plan.parts())?;
-        let progress = Progress {
-            part,
-            superstep: 0,
+        prove!(part.partition() < part.plan().parts());
+        let early = Early::empty(alloc, part.plan().parts())?;
+        let FirstTables {
             tables,
             hearing,
-            early,
-        };
-        Replica::of(alloc, progress, targets, estimator)
+            estimator,
+            weights,
+        } = first;
+        Ok(Replica {
+            progress: Progress {
+                part,
+                superstep: 0,
+                tables,
+                hearing,
+                early,
+            },
+            targets,
+            estimator,
+            weights,
+        })
     }
 
     /// A replica that has this, by the index of its part. Estimates are made as its plan says.

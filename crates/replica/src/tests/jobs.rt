@@ -2,8 +2,11 @@
 
 ghost use Rattle.std.specs.Prelude.{◌≡◌, ◌<◌};
 ghost use Rattle.ball_model.specs.Job.{digest_of};
+ghost use Rattle.replica.specs.First.{BeginsAs};
+ghost use Rattle.replica.specs.Index.{targets_of};
 
 use super::*;
+use std::alloc::Global;
 
 /// A job of a graph: its edge list with tabs, the vertices that are counted if not all are, whether estimates are
 /// corrected for small sets, and the numbers of its plan.
@@ -45,11 +48,20 @@ fn count(rt: &HostRuntime, graph: &mut Graph, list: Option<&[u8]>) -> bool {
     }
 }
 
-/// A replica of a part that was indexed before it was shared.
-fn indexed_replica(rt: &HostRuntime, part: Part) -> Option<Replica> {
+/// A replica of a part, which is shared then, by its index and first tables.
+pub fn begun(alloc: Global, part: Part, targets: Targets, first: FirstTables) -> Option<Replica>
+    requires index { targets ≡ targets_of part }
+    requires first { BeginsAs part first }
+{
+    let part = Arc::new(alloc, part).ok()?;
+    Replica::with_tables(alloc, part, targets, first).ok()
+}
+
+/// A replica of a part whose index and first tables were made before it was shared.
+fn prepared_replica(rt: &HostRuntime, part: Part) -> Option<Replica> {
     let targets = Targets::of(rt.alloc(), &part).ok()?;
-    let part = Arc::new(rt.alloc(), part).ok()?;
-    Replica::with_targets(rt.alloc(), part, targets).ok()
+    let first = FirstTables::of(rt.alloc(), &part).ok()?;
+    begun(rt.alloc(), part, targets, first)
 }
 
 /// A replica of a part.
@@ -58,12 +70,12 @@ fn new_replica(rt: &HostRuntime, part: Part) -> Option<Replica> {
     Replica::new(rt.alloc(), part).ok()
 }
 
-/// Adds a replica of a part: of every other partition it is indexed first.
+/// Adds a replica of a part: of every other partition its index and first tables are made first.
 fn add(rt: &HostRuntime, all: &mut Vec<Replica>, part: Part) -> Option<()> {
     let replica = if part.partition() % 2 == 0 {
         new_replica(rt, part)?
     } else {
-        indexed_replica(rt, part)?
+        prepared_replica(rt, part)?
     };
     all.push(replica).ok()
 }

@@ -1,12 +1,13 @@
-//! Supersteps that are closed in many threads.
+//! Supersteps that are closed in many threads, and indexes that are made in many.
 
-use super::jobs::{Job, add_job, graph};
+use super::jobs::{Job, add_job, begun, graph};
+use super::shown::shows_all;
 use super::*;
 use crate::level::count_set;
 use crate::pull::pull_own;
 use crate::spread::Own;
 use crate::start::{start_marks, start_rows};
-use std::alloc::Global;
+use std::alloc::{AllocGlobal, Global};
 use std::thread::Threads;
 
 /// Eight vertices in one partition; the first is one that many link to.
@@ -64,12 +65,112 @@ fn sole_part(rt: &HostRuntime, text: &[u8]) -> Option<Part> {
     graph.part(rt.alloc(), &plan, 0).ok()
 }
 
+/// A new replica of that part.
+fn new_replica(rt: &HostRuntime, text: &[u8]) -> Option<Replica> {
+    let part = Arc::new(rt.alloc(), sole_part(rt, text)?).ok()?;
+    Replica::new(rt.alloc(), part).ok()
+}
+
 /// The replica of that part, which has closed superstep 0.
 fn closed(rt: &HostRuntime, text: &[u8]) -> Option<Replica> {
-    let part = Arc::new(rt.alloc(), sole_part(rt, text)?).ok()?;
-    let mut replica = Replica::new(rt.alloc(), part).ok()?;
+    let mut replica = new_replica(rt, text)?;
     replica.close().ok()?;
     Some(replica)
+}
+
+/// Graphs of eleven vertices, of two and of one that has no edge, and in how many threads each is indexed.
+static INDEXED: [(&[u8], usize); 6] = [
+    (HUB, 1),
+    (HUB, 2),
+    (HUB, 3),
+    (HUB, 8),
+    (b"a\tb\n", 8),
+    (b"a\n", 2),
+];
+
+/// The replica of a part, which was indexed in so many threads, or by `Targets::of` if by none.
+fn indexed<R: AllocGlobal + Threads + Sync>(
+    rt: &R,
+    part: Option<Part>,
+    threads: usize,
+) -> Option<Replica> {
+    let part = part?;
+    let targets = if threads == 0 {
+        Targets::of(rt.alloc(), &part)
+    } else {
+        Targets::of_by(rt, &part, threads)
+    };
+    let targets = targets.ok()?;
+    let part = Arc::new(rt.alloc(), part).ok()?;
+    Replica::with_targets(rt.alloc(), part, targets).ok()
+}
+
+/// Adds it.
+fn add_indexed<R: AllocGlobal + Threads + Sync>(
+    rt: &R,
+    all: &mut Vec<Replica>,
+    part: Option<Part>,
+    threads: usize,
+) -> bool {
+    match indexed(rt, part, threads) {
+        Some(replica) => all.push(replica).is_ok(),
+        None => false,
+    }
+}
+
+/// Whether the replica of the sole part of a graph goes on as one does that was indexed by `Targets::of`: None if
+/// memory was refused.
+fn is_indexed_alike<R: AllocGlobal + Threads + Sync>(
+    host: &HostRuntime,
+    rt: &R,
+    text: &[u8],
+    threads: usize,
+) -> Option<bool> {
+    let mut all = Vec::new(rt.alloc());
+    let added = add_indexed(rt, &mut all, sole_part(host, text), 0)
+        && add_indexed(rt, &mut all, sole_part(host, text), threads);
+    added.then_some(go_on_alike(rt, &mut all, 1))
+}
+
+/// Whether it is so of each of these graphs.
+fn are_indexed_alike<R: AllocGlobal + Threads + Sync>(host: &HostRuntime, rt: &R) -> Option<bool> {
+    let mut alike = true;
+    for case in &INDEXED {
+        let (text, threads) = *case;
+        alike = is_indexed_alike(host, rt, text, threads)? && alike;
+    }
+    Some(alike)
+}
+
+/// A run of this test can refuse any one growth: then all is done again.
+#[test]
+fn indexes_whose_memory_is_refused(rt: HostRuntime) {
+    let alike = are_indexed_alike(&rt, &rt).or(are_indexed_alike(&rt, &rt));
+    assert_eq!(rt; alike, Some(true));
+}
+
+/// The new replica of a part whose index and first tables were made before, these in two threads.
+fn prepared<R: AllocGlobal + Threads + Sync>(rt: &R, part: Part) -> Option<Replica> {
+    let targets = Targets::of(rt.alloc(), &part).ok()?;
+    let first = FirstTables::of_by(rt, &part, 2).ok()?;
+    begun(rt.alloc(), part, targets, first)
+}
+
+/// Whether it tells in each reader what one does that makes all by itself.
+fn begins_alike<R: AllocGlobal + Threads + Sync>(rt: &R, mut whole: Replica, part: Part) -> bool {
+    match (prepared(rt, part), whole.snapshot(rt.alloc())) {
+        (Some(replica), Ok(snapshot)) => shows_all(&replica, &snapshot),
+        _ => false,
+    }
+}
+
+#[test]
+fn first_tables_change_nothing(rt: HostRuntime) {
+    let alike = match (sole_part(&rt, HUB), new_replica(&rt, HUB)) {
+        (Some(part), Some(whole)) => begins_alike(&rt, whole, part),
+        _ => false,
+    };
+    assert!(rt; alike);
 }
 
 /// Rows and marks of a superstep.

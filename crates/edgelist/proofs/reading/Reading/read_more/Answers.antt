@@ -9,7 +9,7 @@ loop-turn-init g c = record {
   turns = omega arith;
   in_range = c.requires.number;
   within = c.requires.within;
-  part = λ d text at before t. part-read-start g.R.Read.remaining d (limits_of c.args.limits) c.args.number before text c.args.reader.now c.args.self.now.labels c.args.self.now.edges.items at t;
+  part = λ d text at before t. part-read-start g.R.Read.remaining d (limits_of c.args.how.now.limits) c.args.number before text c.args.reader.now c.args.self.now.labels c.args.self.now.edges.items at t;
 }
 
 pub returns-then-not-more-clause-ok : goal.returns-then-not-more-clause-ok

@@ -1,0 +1,168 @@
+//! Edge lists that are read record by record, by one thread.
+
+ghost use Rattle.std.specs.Prelude.{◌≡◌, ◌≤◌, ◌<◌, length, Ok, Err, IfOk, IfErr, OnErr};
+ghost use Rattle.std.specs.Io.KnownBytes.{ReadConsumes};
+ghost use Rattle.std.specs.Io.{ReadsAtMost};
+ghost use Rattle.ball_model.specs.PlanValue.{most_vertices};
+ghost use Rattle.ball_model.specs.Input.{most_records, network_from, records};
+ghost use Rattle.edgelist.specs.Records.{ForPlain, FromStart};
+ghost use Rattle.edgelist.specs.Reading.{AreWithin, CountsOne, EndsAtEnd, EndsAtFault, IsReadBy};
+ghost use Rattle.edgelist.specs.Reading.{Refuses, byte_of, limits_of, meaning_within};
+
+use crate::read::{Delimiter, EdgeError, EdgeLimits, EdgeList, read_answer};
+use crate::reading::Reading;
+use crate::records::reader_of;
+use crate::row::{AT_ONCE, Row, rows_for};
+use crate::watch::Watch;
+use ball_model::CountedRead;
+use csv::Reader;
+use std::alloc::Global;
+use std::hash::RandomState;
+use std::io;
+use std::io::{ErrorKind, Read};
+
+// The watch is called each time that so many records more were added.
+const TOLD_EACH: u64 = 1_024;
+
+/// How an edge list is read by one thread.
+#[derive(Drop)]
+pub(crate) struct Sequential<'a, W> {
+    /// It is called, as the records come, with how many were added so far.
+    pub(crate) watch: &'a W,
+    pub(crate) delimiter: Delimiter,
+    pub(crate) limits: EdgeLimits,
+}
+
+// A reader as `csv` reads it, each of whose failed calls is counted.
+#[derive(Drop)]
+struct Counted<'a, R: CountedRead> {
+    reader: &'a mut R,
+}
+
+impl<'a, R: CountedRead> Read for Counted<'a, R> {
+    ghost remaining = { λ s. R.remaining s.reader.now };
+
+    fn read(&mut self, buf: &mut [u8]) -> io::Result<usize>
+        ensures bound { ReadsAtMost result buf.new }
+        ensures bytes { ReadConsumes
+            (R.remaining self.old.reader.now) (R.remaining self.new.reader.now) result buf.new }
+        ensures failed { OnErr result (
+            R.failed_calls self.old.reader.now < R.failed_calls self.new.reader.now) }
+    {
+        match self.reader.get(buf) {
+            Some(n) => Ok(n),
+            None => Err(io::Error::from(ErrorKind::Other)),
+        }
+    }
+}
+
+impl<'a, W: Watch> Sequential<'a, W> {
+    /// Calls the watch if the number of records has passed a multiple of 1,024: it was `before`, and is `number` now.
+    pub(crate) fn tell(&self, before: u64, number: u64) {
+        if number / TOLD_EACH > before / TOLD_EACH {
+            self.watch.while_read(number);
+        }
+    }
+
+    // Reads all records that are left, and tells how many they were.
+    fn read_records<R: Read + Drop>(
+        &self,
+        alloc: Global,
+        state: RandomState,
+        reader: &mut Reader<R>,
+        rows: &mut [Row],
+    ) -> Result<(Reading, u64), EdgeError>
+        requires rows { 0 < length rows.old }
+        requires few { self.now.limits.edges ≤ most_records }
+        ensures within { IfOk result (λ both.
+            AreWithin self.now.limits.vertices self.now.limits.edges
+            both.0.labels both.0.edges.items) }
+        ensures ok { FromStart R.remaining reader.old (λ rs. IfOk result (λ both.
+            IsReadBy self.now.limits rs both.0.labels both.0.edges.items)) }
+        ensures count { FromStart R.remaining reader.old (λ rs.
+            IfOk result (λ both. both.1 ≡ length rs)) }
+        ensures refused { FromStart R.remaining reader.old (λ rs.
+            IfErr result (Refuses (network_from (limits_of self.now.limits) rs))) }
+        ensures last { EndsAtEnd R.remaining reader.old reader.new result }
+        ensures ends { EndsAtFault R.remaining reader.old reader.new
+            (limits_of self.now.limits) result }
+    {
+        let mut reading = Reading::new(alloc, state)?;
+        let read = reading.read_more(alloc, reader, rows, 0, self);
+        read.map(|number| (reading, number))
+    }
+
+    // Reads all records of a source, and tells how many they are.
+    fn read_source<R: Read + Drop>(
+        &self,
+        alloc: Global,
+        state: RandomState,
+        source: R,
+    ) -> Result<(Reading, u64), EdgeError>
+        requires { self.now.limits.edges ≤ most_records }
+        ensures within { IfOk result (λ both.
+            AreWithin self.now.limits.vertices self.now.limits.edges
+            both.0.labels both.0.edges.items) }
+        ensures ok { ForPlain (R.remaining source) (λ text. IfOk result (λ both.
+            IsReadBy self.now.limits (records (byte_of self.now.delimiter) text)
+            both.0.labels both.0.edges.items)) }
+        ensures count { ForPlain (R.remaining source) (λ text. IfOk result (λ both.
+            both.1 ≡ length (records (byte_of self.now.delimiter) text))) }
+        ensures refused { ForPlain (R.remaining source) (λ text.
+            IfErr result (Refuses (meaning_within self.now.limits self.now.delimiter text))) }
+    {
+        let mut reader = reader_of(alloc, source, self.delimiter);
+        let mut rows = rows_for(alloc, AT_ONCE)?;
+        self.read_records(alloc, state, &mut reader, &mut rows)
+    }
+
+    // Reads all records, and makes their graph. It and what it calls are cut small for the checker.
+    fn read_graph<R: Read + Drop>(
+        &self,
+        alloc: Global,
+        state: RandomState,
+        reader: R,
+    ) -> Result<EdgeList, EdgeError>
+        requires vertices { self.now.limits.vertices ≤ most_vertices }
+        requires edges { self.now.limits.edges ≤ most_records }
+        ensures ok { ForPlain (R.remaining reader) (λ text. IfOk result (λ list.
+            meaning_within self.now.limits self.now.delimiter text ≡ Ok list.graph)) }
+        ensures count { ForPlain (R.remaining reader) (λ text. IfOk result (λ list.
+            list.records ≡ length (records (byte_of self.now.delimiter) text))) }
+        ensures refused { ForPlain (R.remaining reader) (λ text.
+            IfErr result (Refuses (meaning_within self.now.limits self.now.delimiter text))) }
+    {
+        let (reading, number) = self.read_source(alloc, state, reader)?;
+        reading.into_list(alloc, number)
+    }
+
+    /// Reads an edge list. It answers `Read` if a call of the reader failed (while failures can be counted), and at no other
+    /// time.
+    pub(crate) fn read<R: CountedRead>(
+        &self,
+        alloc: Global,
+        state: RandomState,
+        reader: &mut R,
+    ) -> Result<EdgeList, EdgeError>
+        requires vertices { self.now.limits.vertices ≤ most_vertices }
+        requires edges { self.now.limits.edges ≤ most_records }
+        ensures ok { ForPlain (R.remaining reader.old) (λ text. IfOk result (λ list.
+            meaning_within self.now.limits self.now.delimiter text ≡ Ok list.graph)) }
+        ensures count { ForPlain (R.remaining reader.old) (λ text. IfOk result (λ list.
+            list.records ≡ length (records (byte_of self.now.delimiter) text))) }
+        ensures refused { ForPlain (R.remaining reader.old) (λ text.
+            IfErr result (Refuses (meaning_within self.now.limits self.now.delimiter text))) }
+        ensures read { result ≡ Err EdgeError.Read →
+            R.failed_calls reader.old < R.failed_calls reader.new }
+        ensures failed { CountsOne (R.failed_calls reader.old) (R.failed_calls reader.new) →
+            result ≡ Err EdgeError.Read }
+    {
+        let before = reader.failures();
+        let counted = Counted {
+            reader: &mut *reader,
+        };
+        let result = self.read_graph(alloc, state, counted);
+        let failed = reader.failures() > before;
+        read_answer(result, failed)
+    }
+}
