@@ -267,20 +267,22 @@ def without(words, data, shim, variable, call):
         return answer, os.path.exists(told)
 
 
-def each_call(kind, words, data, shim, variable, wanted, first=1):
+def each_call(kind, words, data, shim, variable, wanted, first=1, missed=None):
     """Call 1, 2, .. of a kind is refused, or from a later one on, until a run in which there is no such call: then all is
-    as it should be."""
-    bad, call = [], first
+    as it should be. If it is said how many calls are missed, at most so many runs end in another way than then."""
+    bad, call, others, plain = [], first, 0, ran(words, data)
     while len(bad) < 5:
         answer, reached = without(words, data, shim, variable, call)
         if not reached:
             break
         if not wanted(*answer):
             bad.append((words, variable, call, answer))
+        others += answer != plain
         call += 1
-    plain = ran(words, data)
     if answer != plain:
         bad.append((words, variable, "none", answer))
+    if missed is not None and others > missed:
+        bad.append((words, variable, f"{others} runs ended in another way, and not at most {missed}"))
     count(kind, call - first + 1, bad)
 
 
@@ -311,21 +313,23 @@ def growth_refused(shim):
 
 def reading_refused(shim):
     """Edge lists of several pieces, which threads cut, and one with so many distinct edges that threads code its lists:
-    whichever allocation or thread is refused, the report is the same, or the run says that memory was refused and has
-    written nothing."""
+    whichever allocation is refused, the report is the same, or the run says that memory was refused and has written
+    nothing; and whichever thread, but that of the only worker, the report is the same."""
     coded = "".join(f"{v}\t{w}\n" for v in range(200) for w in range(200)).encode()
     short = ["run", "--log2m", "4", "--limit", "1"]
     lists = ("cut", RUN, EDGES * 200000, REPORT), ("coded", short, coded, ran([*short, "--threads", "1"], coded)[1])
-    for kind, variable in ("memory", "REFUSE_ALLOC"), ("a thread", "REFUSE_THREAD"):
+    for kind, variable, missed in ("memory", "REFUSE_ALLOC", None), ("a thread", "REFUSE_THREAD", 3):
         for done, words, data, report in lists:
             each_call(f"{kind} refused: a list {done} by threads", [*words, "--threads", "4"], data, shim, variable,
-                      lambda *answer, report=report: answer in [(1, b"", b"hyperball: out of memory\n"), (0, report, b"")])
+                      lambda *answer, report=report: answer in [(1, b"", b"hyperball: out of memory\n"), (0, report, b"")],
+                      missed=missed)
 
 
 def refused_in_threads(shim):
     """Supersteps in which so many rows change that threads share them (from 8 MiB of registers, or 16 MiB of rows, on):
-    however many threads are asked for the report is the same, and so it is whichever thread is not to be had. Whichever of
-    the last allocations is refused, it is the same too, or the run says that memory was refused and has written nothing."""
+    however many threads are asked for the report is the same, and so it is whichever thread is not to be had, but that of
+    the only worker. Whichever allocation is refused, from the last hundred before the supersteps on (index and first
+    tables), it is the same too, or the run says that memory was refused and has written nothing."""
     chance = random.Random("threads")
     words = ["run", "--log2m", "10", "--limit", "2"]
     four = [*words, "--threads", "4"]
@@ -344,11 +348,11 @@ def refused_in_threads(shim):
     count("large supersteps, other numbers of threads", len(ways), bad)
     one, two = (how_many(["run", "--log2m", "10", "--limit", it, "--threads", "4"], data, shim, "REFUSE_THREAD") for it in "12")
     count("threads start in each large superstep", 2, [] if one < two else [(one, two)])
-    each_call("a thread refused: large supersteps", four, data, shim, "REFUSE_THREAD", holds(report))
+    each_call("a thread refused: large supersteps", four, data, shim, "REFUSE_THREAD", holds(report), missed=3)
     data = edges(20000)
     report = ran([*words, "--threads", "1"], data)[1]
-    last = how_many(four, data, shim, "REFUSE_ALLOC")
-    each_call("memory refused: large supersteps", four, data, shim, "REFUSE_ALLOC", holds(report), first=max(1, last - 220))
+    begun = how_many([*four, "--lose", "0.0@0"], data, shim, "REFUSE_ALLOC")
+    each_call("memory refused: large supersteps", four, data, shim, "REFUSE_ALLOC", holds(report), first=max(1, begun - 100))
 
 
 def refusals(shim):

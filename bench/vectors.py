@@ -244,13 +244,13 @@ HEAD = """\
 # the second; and checkpoints of the same edges in one partition. Counters have 16 registers under seed 0.
 # bench/vectors.py prints this file, from the definitions and the formats alone: nothing of it comes from the program.
 #
-# A batch has a line for what stands before the digest of the job, two for that, one for how many vertices changed and how
+# A batch has a line for what is before the digest of the job, two for that, one for how many vertices changed and how
 # many rows there are, and one for each row: its vertex and its registers.
 #
-# A checkpoint has a line for what stands before the digest of the job, and two for that. Four follow for each vertex: its
+# A checkpoint has a line for what is before the digest of the job, and two for that. Four follow for each vertex: its
 # mark, its estimate and harmonic centrality, its sum of distances, its registers. Then comes a line for the sum of the
 # estimates at each superstep, one for what is heard and whether a change is, one for the registers accumulated of each
-# vertex, one for the number of batches, and two for the SHA-256 of all that. In version 1 those behind the sums are
+# vertex, one for the number of batches, and two for the SHA-256 of all that. In version 1 those after the sums are
 # missing, but for the last two.
 """
 
@@ -259,7 +259,7 @@ TESTS_HEAD = """\
 //! Counters have 16 registers under seed 0. `bench/vectors.py tests` prints this file, from the definitions and the formats
 //! alone: nothing of it comes from the program.
 //!
-//! A checkpoint has a line for what stands before the digest of the job, and two for that. Four follow for each vertex:
+//! A checkpoint has a line for what is before the digest of the job, and two for that. Four follow for each vertex:
 //! its mark, its estimate and harmonic centrality, its sum of distances, its registers. Then comes a line for the sum of
 //! the estimates at each superstep, one for what is heard and whether a change is, one for the registers accumulated of
 //! each vertex, one for the number of batches, and two for the SHA-256 of all that.

@@ -338,7 +338,7 @@ figures_told network body v old new shown = record {
     holds j p h Figures k asks = k
     holds j p h a k asks = absurd asks
 
--- the same, of what came of telling them to a replica w, which is v
+-- what a node answers of its figures: what came of telling them to a replica w, which is v
 pub show_answered : (network : Network) (body : List ℕ) (v w : State) (n : ℕ) (old new : Option (List ℕ)) (r : Result (Unit {0}) TellError) → w ≡ v → n ≡ w.part.number →
     OnOk r (AppendsOf w (λ j h. show_text j (the_lone_node n) h) old new) → OnOk r (Steps network command.Show body v v old new)
 show_answered network body v w n old new (Ok u) same is shown = subst (λ (s : State). Steps network command.Show body s s old new) same (show_told network body w n old new is shown)

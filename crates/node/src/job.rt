@@ -131,7 +131,7 @@ fn read_list<R: CountedRead>(reader: &mut R, list: &mut Vec<u8>) -> Result<(), J
 }
 
 // Counts only the vertices of a list, if there is one.
-fn count_listed<R: CountedRead>(
+fn count_section<R: CountedRead>(
     alloc: Global,
     graph: &mut Graph,
     job: &JobInput,
@@ -202,7 +202,7 @@ pub fn read_job<R: CountedRead>(
         R.failed_calls reader.new ≡ R.failed_calls reader.old }
 {
     let mut read = read_edge_section(alloc, state, job, reader)?;
-    count_listed(alloc, &mut read.graph, job, reader)?;
+    count_section(alloc, &mut read.graph, job, reader)?;
     let plan = plan_for(&read.graph, job)?;
     Ok((read.graph, plan, read.records))
 }

@@ -18,7 +18,7 @@ use edgelist::Part;
 use registers::{LINE, Rows, glance_over, max_into};
 use std::thread::{Threads, available_parallelism, join_mut};
 
-// Below so many bytes of registers that changed, threads cost more than they save.
+// Below so many bytes of registers that changed, or below as many rows as are many, threads cost more than they save.
 const FEW: usize = 1 << 23;
 
 // From so many bytes of rows on threads have blocks to choose from. What is beside the registers of a row counts as some
@@ -35,6 +35,9 @@ const RAISE: usize = 20;
 
 // Into how many blocks many rows are cut for each processor, as a power of 2, if all are to work.
 const BLOCKS: u32 = 2;
+
+// More threads than these do not work on a superstep.
+const MOST_THREADS: usize = 1024;
 
 // How many rows are glanced at before the first of them raises another one.
 const AHEAD: usize = 8;
@@ -265,12 +268,12 @@ pub fn pull_own<R: Threads + Sync>(
     pull_halves(rt, &pull, 0, accumulated.cells_mut(), touched);
 }
 
-// How often rows are halved for so many threads: there are no more blocks than threads. If all processors are to work
-// on many rows there are some more, since blocks take unequal times.
+// How often rows are halved for so many threads, of which 1,024 count: there are no more blocks than threads. If all
+// processors are to work on many rows there are some more, since blocks take unequal times.
 fn halvings<R: Threads>(rt: &R, threads: usize, width: usize, marks: &[bool]) -> u32
     requires { width < 2 ^ 16 }
 {
-    let whole = usize::BITS - (threads / 2).leading_zeros();
+    let whole = usize::BITS - (threads.min(MOST_THREADS) / 2).leading_zeros();
     match available_parallelism(rt) {
         Ok(processors) if threads < processors.get() => whole,
         _ if are_marked(marks, many_rows(width)) => whole + BLOCKS,

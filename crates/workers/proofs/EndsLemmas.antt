@@ -6,9 +6,9 @@ use Rattle.std.proofs.lemmas.Bool.{and_parts}
 use Rattle.ball_model.specs.State.{State}
 use Rattle.workers.specs.declared.ends.Faults.{Faults}
 use Rattle.workers.specs.declared.ends.JobError.{JobError}
-use Rattle.workers.specs.declared.node.NodeEnd.{NodeEnd}
-use Rattle.workers.specs.declared.node.NodeEnd.TheVariants as ends
-use Rattle.workers.specs.declared.node.NodeError.{NodeError}
+use Rattle.workers.specs.declared.worker.node_run.NodeEnd.{NodeEnd}
+use Rattle.workers.specs.declared.worker.node_run.NodeEnd.TheVariants as ends
+use Rattle.workers.specs.declared.worker.node_run.NodeError.{NodeError}
 use Rattle.workers.specs.Ends.{all_lost, done_of, each_has_done, fault_in, fault_noted, fault_unless, faults_in, first_done, first_fault, first_some, first_waiting, found_full, is_done, is_lost, lacked_memory, least_lost, least_waiting, no_faults, waited, with_end, with_part}
 
 -- ---- tests and options, one behind another

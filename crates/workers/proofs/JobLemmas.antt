@@ -10,9 +10,9 @@ use Rattle.board.specs.Seats.{BoardView, SeatView, SharesNumbers}
 use Rattle.workers.specs.declared.ends.Faults.{Faults}
 use Rattle.workers.specs.declared.ends.JobError.{JobError}
 use Rattle.workers.specs.declared.ends.JobError.TheVariants as job
-use Rattle.workers.specs.declared.node.NodeEnd.{NodeEnd}
-use Rattle.workers.specs.declared.node.NodeEnd.TheVariants as ends
-use Rattle.workers.specs.declared.node.NodeError.{NodeError}
+use Rattle.workers.specs.declared.worker.node_run.NodeEnd.{NodeEnd}
+use Rattle.workers.specs.declared.worker.node_run.NodeEnd.TheVariants as ends
+use Rattle.workers.specs.declared.worker.node_run.NodeError.{NodeError}
 use Rattle.workers.specs.declared.options.RunOptions.{RunOptions}
 use Rattle.workers.specs.declared.assignment.Assignment.{Assignment}
 use Rattle.workers.specs.Node.{IfDone, IsDone}

@@ -6,12 +6,12 @@ use Rattle.ball_model.specs.Held.{start_holding}
 use Rattle.ball_model.specs.History.{calls_by, entries_of, holding_in, start_history}
 use Rattle.ball_model.specs.Job.{Job}
 use Rattle.ball_model.specs.State.{State}
-use Rattle.workers.specs.declared.node.Fate.{Fate}
-use Rattle.workers.specs.declared.node.Fate.TheVariants as fate
-use Rattle.workers.specs.declared.node.NodeEnd.{NodeEnd}
-use Rattle.workers.specs.declared.node.NodeError.{NodeError}
-use Rattle.workers.specs.declared.node.NodeError.TheVariants as fault
-use Rattle.workers.specs.declared.node.NodeOrders.{NodeOrders}
+use Rattle.workers.specs.declared.worker.node_run.Fate.{Fate}
+use Rattle.workers.specs.declared.worker.node_run.Fate.TheVariants as fate
+use Rattle.workers.specs.declared.worker.node_run.NodeEnd.{NodeEnd}
+use Rattle.workers.specs.declared.worker.node_run.NodeError.{NodeError}
+use Rattle.workers.specs.declared.worker.node_run.NodeError.TheVariants as fault
+use Rattle.workers.specs.declared.worker.node_run.NodeOrders.{NodeOrders}
 use Rattle.workers.specs.Job.{HasRun, KeepsItsOrders}
 use Rattle.workers.specs.Tie.{AreOfNode, HasPath, IsPath}
 use Rattle.workers.specs.Superstep.{EndsAs, IsFate, end_with}

@@ -19,8 +19,8 @@ use Rattle.replica.proofs.KeptLemmas.Kept.{true_named}
 use Rattle.replica.proofs.LevelLemmas.Busy.{found_verdict-is}
 use Rattle.report.proofs.EndedLemmas.{ends_said}
 use Rattle.report.proofs.EndingLemmas.{is_ended}
-use Rattle.workers.specs.declared.superstep.SuperstepEnd.{SuperstepEnd}
-use Rattle.workers.specs.declared.superstep.SuperstepEnd.TheVariants as superstep_end
+use Rattle.workers.specs.declared.worker.superstep.SuperstepEnd.{SuperstepEnd}
+use Rattle.workers.specs.declared.worker.superstep.SuperstepEnd.TheVariants as superstep_end
 use Rattle.workers.specs.Node.{HasPosted, HasToldAll, IsDone}
 use Rattle.workers.specs.Superstep.{HasRecalled, IsPartOf, IsSuperstepEnd, StandsIn}
 use Rattle.workers.proofs.SeenLemmas.{posted_by_call}

@@ -8,10 +8,10 @@ use Rattle.workers.specs.declared.ends.Faults.{Faults}
 use Rattle.workers.specs.declared.ends.JobError.{JobError}
 use Rattle.workers.specs.declared.ends.JobError.TheVariants as job
 use Rattle.workers.specs.declared.ends.Waiting.{Waiting}
-use Rattle.workers.specs.declared.node.NodeEnd.{NodeEnd}
-use Rattle.workers.specs.declared.node.NodeEnd.TheVariants as ends
-use Rattle.workers.specs.declared.node.NodeError.{NodeError}
-use Rattle.workers.specs.declared.node.NodeError.TheVariants as fault
+use Rattle.workers.specs.declared.worker.node_run.NodeEnd.{NodeEnd}
+use Rattle.workers.specs.declared.worker.node_run.NodeEnd.TheVariants as ends
+use Rattle.workers.specs.declared.worker.node_run.NodeError.{NodeError}
+use Rattle.workers.specs.declared.worker.node_run.NodeError.TheVariants as fault
 
 -- a node was lost
 abbrev pub is_lost : Result NodeEnd NodeError → Bool

@@ -10,10 +10,10 @@ use Rattle.board.specs.Seats.{BoardView, SeatView, IsAt}
 use Rattle.workers.specs.declared.ends.Faults.{Faults}
 use Rattle.workers.specs.declared.ends.JobError.{JobError}
 use Rattle.workers.specs.declared.ends.JobError.TheVariants as job
-use Rattle.workers.specs.declared.node.NodeEnd.{NodeEnd}
-use Rattle.workers.specs.declared.node.NodeError.{NodeError}
-use Rattle.workers.specs.declared.node.NodeError.TheVariants as fault
-use Rattle.workers.specs.declared.node.NodeOrders.{NodeOrders}
+use Rattle.workers.specs.declared.worker.node_run.NodeEnd.{NodeEnd}
+use Rattle.workers.specs.declared.worker.node_run.NodeError.{NodeError}
+use Rattle.workers.specs.declared.worker.node_run.NodeError.TheVariants as fault
+use Rattle.workers.specs.declared.worker.node_run.NodeOrders.{NodeOrders}
 use Rattle.workers.specs.declared.options.RunOptions.{RunOptions}
 use Rattle.workers.specs.declared.assignment.Assignment.{Assignment}
 use Rattle.workers.specs.Node.{FallsDue, IfDone, IfLost, IfStarved, IsDone}

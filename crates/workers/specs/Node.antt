@@ -12,10 +12,10 @@ use Rattle.board.specs.declared.error.BoardError.{BoardError}
 use Rattle.board.specs.declared.error.BoardError.TheVariants as board
 use Rattle.replica.specs.Level.{EndsRun, found_verdict}
 use Rattle.replica.specs.Sent.{batch_name}
-use Rattle.workers.specs.declared.node.NodeEnd.{NodeEnd}
-use Rattle.workers.specs.declared.node.NodeEnd.TheVariants as ends
-use Rattle.workers.specs.declared.node.NodeError.{NodeError}
-use Rattle.workers.specs.declared.node.NodeError.TheVariants as fault
+use Rattle.workers.specs.declared.worker.node_run.NodeEnd.{NodeEnd}
+use Rattle.workers.specs.declared.worker.node_run.NodeEnd.TheVariants as ends
+use Rattle.workers.specs.declared.worker.node_run.NodeError.{NodeError}
+use Rattle.workers.specs.declared.worker.node_run.NodeError.TheVariants as fault
 
 -- a node's error if its board refuses a call
 abbrev pub node_error : BoardError → NodeError

@@ -5,7 +5,7 @@ use Rattle.ball_model.specs.declared.plan.TheConstants.{MOST_REPLICAS}
 use Rattle.ball_model.specs.PlanValue.{greatest_limit}
 use Rattle.board.specs.declared.board.TheConstants.{LEAST_ENTRIES, MOST_ENTRIES}
 use Rattle.edgelist.specs.declared.job.JobOptions.{JobOptions}
-use Rattle.workers.specs.declared.node.NodeOrders.{NodeOrders}
+use Rattle.workers.specs.declared.worker.node_run.NodeOrders.{NodeOrders}
 use Rattle.workers.specs.declared.options.RunOptions.{RunOptions}
 
 -- what is asked of the job that is run

@@ -9,17 +9,17 @@ use Rattle.ball_model.specs.Held.{start_holding}
 use Rattle.ball_model.specs.Join.{Holding}
 use Rattle.replica.specs.Level.{EndsRun, found_verdict, missing_in}
 use Rattle.replica.specs.Sent.{batch_name}
-use Rattle.workers.specs.declared.node.Fate.{Fate}
-use Rattle.workers.specs.declared.node.Fate.TheVariants as fate
-use Rattle.workers.specs.declared.node.NodeEnd.{NodeEnd}
-use Rattle.workers.specs.declared.node.NodeEnd.TheVariants as ends
-use Rattle.workers.specs.declared.node.NodeError.{NodeError}
-use Rattle.workers.specs.declared.node.NodeError.TheVariants as fault
-use Rattle.workers.specs.declared.node.NodeOrders.{NodeOrders}
-use Rattle.workers.specs.declared.superstep.Found.{Found}
-use Rattle.workers.specs.declared.superstep.Found.TheVariants as found
-use Rattle.workers.specs.declared.superstep.SuperstepEnd.{SuperstepEnd}
-use Rattle.workers.specs.declared.superstep.SuperstepEnd.TheVariants as superstep_end
+use Rattle.workers.specs.declared.worker.node_run.Fate.{Fate}
+use Rattle.workers.specs.declared.worker.node_run.Fate.TheVariants as fate
+use Rattle.workers.specs.declared.worker.node_run.NodeEnd.{NodeEnd}
+use Rattle.workers.specs.declared.worker.node_run.NodeEnd.TheVariants as ends
+use Rattle.workers.specs.declared.worker.node_run.NodeError.{NodeError}
+use Rattle.workers.specs.declared.worker.node_run.NodeError.TheVariants as fault
+use Rattle.workers.specs.declared.worker.node_run.NodeOrders.{NodeOrders}
+use Rattle.workers.specs.declared.worker.superstep.Found.{Found}
+use Rattle.workers.specs.declared.worker.superstep.Found.TheVariants as found
+use Rattle.workers.specs.declared.worker.superstep.SuperstepEnd.{SuperstepEnd}
+use Rattle.workers.specs.declared.worker.superstep.SuperstepEnd.TheVariants as superstep_end
 use Rattle.workers.specs.Node.{FallsDue, HasToldAll, IfDone, IfLost, IfStarved, IsDone, WasMissing}
 use Rattle.workers.specs.Tie.{HasReached, IsNodePath, IsPath, IsPathTo, KeptIfTold}
 

@@ -1,7 +1,7 @@
 //! What a node's thread promises: how its node ended, and by which calls.
 
-use crate::node::{NodeEnd, NodeError};
 use crate::options::RunOptions;
+use crate::worker::node_run::{NodeEnd, NodeError};
 use ball_model::{NodeId, Plan};
 use edgelist::Graph;
 use std::snapshot::Snapshot;

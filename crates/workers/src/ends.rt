@@ -12,11 +12,11 @@ ghost use Rattle.workers.specs.Ends.{done_of, each_has_done, fault_in, fault_not
 ghost use Rattle.workers.specs.Ends.{first_fault, first_some, is_done, is_lost, no_faults, with_end};
 ghost use Rattle.workers.specs.Ends.{with_part};
 ghost use Rattle.workers.specs.Options.{orders_for};
-ghost use Rattle.workers.specs.declared.node.NodeOrders.{NodeOrders as Orders};
+ghost use Rattle.workers.specs.declared.worker.node_run.NodeOrders.{NodeOrders};
 ghost use Rattle.workers.specs.declared.options.RunOptions.{RunOptions};
 
 use crate::assignment::NodeResult;
-use crate::node::{NodeEnd, NodeError};
+use crate::worker::node_run::{NodeEnd, NodeError};
 use ball_model::NodeId;
 use replica::Replica;
 use std::alloc::{AllocError, Global};
@@ -112,8 +112,8 @@ impl Faults {
 
 // Notes a node that did not reach the end, and tells whether it was lost.
 fn note(faults: &mut Faults, node: NodeId, end: &NodeResult) -> bool
-    ensures lost { (j : Job) (p : ℕ) (orders : Orders) → KeepsItsOrders j p orders end.now →
-        result ≡ true → is_some orders.lose ≡ true }
+    ensures lost { (j : Job) (p : ℕ) (orders : NodeOrders) →
+        KeepsItsOrders j p orders end.now → result ≡ true → is_some orders.lose ≡ true }
     ensures noted { (j : Job) (o : RunOptions) (p k : ℕ) →
         KeepsItsOrders j p (orders_for o p k) end.now → AreNoted j.plan.parts o faults.old →
         AreNoted j.plan.parts o faults.new }

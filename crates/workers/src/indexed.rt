@@ -23,11 +23,19 @@ pub(crate) struct Prepared {
     first: FirstTables,
 }
 
-// Below so many bytes of registers, threads cost more than they save.
+// Below so many bytes of registers and so many edges, threads cost more than they save.
 const FEW: usize = 1 << 20;
 
+const FEW_EDGES: usize = 1 << 18;
+
+// Whether a part has few registers and few edges.
+fn is_small(part: &Part) -> bool {
+    let rows = FEW / part.plan().width().max(1);
+    (part.size() as usize) < rows && part.edges() < FEW_EDGES
+}
+
 impl Prepared {
-    // Both are made: in turn if one thread may work or the part has few registers, and else each by half of the threads.
+    // Both are made: in turn if one thread may work or the part is small, and else each by half of the threads.
     fn of<R: AllocGlobal + Threads + Sync>(
         rt: &R,
         part: &Part,
@@ -35,7 +43,7 @@ impl Prepared {
     ) -> Result<Prepared, AllocError>
         ensures { IfOk result (IsPrepared part.now) }
     {
-        if threads < 2 || (part.size() as usize) < FEW / part.plan().width().max(1) {
+        if threads < 2 || is_small(part) {
             return Prepared::in_turn(rt.alloc(), part);
         }
         Prepared::side_by_side(rt, part, threads / 2)

@@ -33,13 +33,11 @@ mod job;
 mod laws;
 mod marks;
 mod memory;
-mod node;
 mod options;
 mod planned;
 mod running;
 mod runs;
 mod shared;
-mod superstep;
 mod threads;
 mod worker;
 
@@ -47,9 +45,9 @@ pub use exchange::{BoardExchange, Exchange};
 pub use gate::{Gate, OpenGate, SleepingGate};
 pub use laws::{histories_are_runs, paths_are_of_nodes, replicas_are_of_runs};
 pub use memory::MemoryExchange;
-pub use node::{NodeEnd, NodeError, NodeOrders, run_node};
 pub use options::RunOptions;
 pub use runs::{RunError, run, run_watched};
+pub use worker::node_run::{NodeEnd, NodeError, NodeOrders, run_node};
 
 #[cfg(test)]
 mod tests;

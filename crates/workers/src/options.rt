@@ -26,7 +26,9 @@ pub struct RunOptions {
     /// Whether up to 2^31 vertices and 2^32 - 1 records are taken, in place of 2^24 and 2^26.
     pub large: bool,
     /// How many threads read the edge list, how many large supersteps use, of all nodes together, each of which has at
-    /// least one, and how many make the report's figures; 0: as many as there are processors. No report depends on it.
+    /// least one, and how many make the report's figures; 0: as many as there are processors. One more makes the digest
+    /// of the edges, and the largest supersteps are cut into four times as many blocks if all processors may work. No
+    /// report depends on it.
     pub threads: u16,
     /// How many replicas each partition has, from 1 to 4.
     pub replicas: u8,

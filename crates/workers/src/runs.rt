@@ -220,8 +220,9 @@ fn write_text<W: CountedWrite>(writer: &mut W, text: &Pages) -> Result<(), RunEr
 }
 
 /// Reads an edge list and writes its report. A thread for each replica of each partition makes the supersteps; if many
-/// vertices changed, it shares the work with others, so that together they use as many as the options say. So many make
-/// the figures, once these have ended.
+/// vertices changed, it shares the work with others, so that together they use as many as the options say (or four
+/// times as many, for the largest supersteps, if all processors may work). So many make the figures, once these have
+/// ended.
 ///
 /// With a list of `counted` vertices only those are counted; the list is read after the edge list, and its lines are as
 /// there, one label in each. The report is built in memory and then written, so nothing is written unless the answer is

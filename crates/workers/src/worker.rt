@@ -1,6 +1,9 @@
 //! A node at work.
 
-use crate::node::NodeOrders;
+pub mod node_run;
+pub mod superstep;
+
+use crate::worker::node_run::NodeOrders;
 use ball_model::NodeId;
 
 /// A node at work: which one it is, what it is to do, and what it works with. Its replica and its place at the board

@@ -65,7 +65,7 @@ restart_turns j v w bytes read = record {
   turned = λ p n fits shows. back j p n v w bytes n.kept refl fits shows shows.kept fits.kept read;
 }
 
--- the same, where what was read may be a refusal
+-- a node that starts anew, where what was read may be a refusal
 pub if_back : {E : Type 0} (r : Result State E) (j : Job) (v : State) (bytes : List ℕ) → ((u : State) → IsKeepable u → u.part ≡ v.part → bytes ≡ checkpoint_bytes u → IfOk r (λ w. w ≡ u)) →
     IfOk r (λ w. Turns j (restarted_turn j) (answer.Restarted w.superstep) (node v (Some bytes)) (node w (Some bytes)))
 if_back (Ok w) j v bytes read = restart_turns j v w bytes read

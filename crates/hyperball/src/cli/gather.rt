@@ -31,7 +31,7 @@ that 'hyperball run' writes.
 
 Reads an edge list, a line of exactly %%, and for each partition in order a line 'part L' and the L
 bytes of the checkpoint that its node gave when it was finished, on standard input. With --counted
-a list of counted vertices and a second line %% stand before the checkpoints. Edge list, list and
+a list of counted vertices and a second line %% come before the checkpoints. Edge list, list and
 options are those of the nodes.";
 
 const GATHER_AFTER: &str = "Example, of two partitions whose nodes gave 0.hbck and 1.hbck:

@@ -31,7 +31,7 @@ const LIMIT_HELP: &str =
 const ESTIMATE_HELP: &str =
     "raw: far too large for small sets; corrected: near the true size for all [default: raw]";
 
-const DELIMITER_HELP: &str = "What stands between the two fields of a line [default: tab]";
+const DELIMITER_HELP: &str = "What is between the two fields of a line [default: tab]";
 
 const COUNTED_HELP: &str =
     "Count only the vertices listed after the edge list and a line %%: how near are they?";

@@ -35,7 +35,7 @@ loses, repeats, delays or starts anew, the figures are the same.
 
 Reads an edge list, a line of exactly %%, and commands on standard input, and answers each on
 standard output before it reads the next. With --counted a list of counted vertices and a second
-line %% stand before the commands. All nodes of a job get the same input up to there, and the
+line %% come before the commands. All nodes of a job get the same input up to there, and the
 same options but --part.";
 
 const NODE_AFTER: &str = "Example, of a job of one partition:

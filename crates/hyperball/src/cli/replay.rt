@@ -32,7 +32,7 @@ A script plays a cluster by hand: the nodes are the replicas of partitions, and 
 one step of one node, done at once. It shows what a superstep does, what a message does that
 comes late, twice or never, and how a worker that was lost comes back.
 
-With --counted a list of counted vertices and a second line %% stand before the script.";
+With --counted a list of counted vertices and a second line %% come before the script.";
 
 const AFTER: &str = "Example:
   printf 'a\\tb\\nb\\tc\\n%%%%\\nsend 0.0 1\\ndeliver 0 1.0\\nclose 1.0\\nshow 1.0\\n' |
@@ -48,7 +48,7 @@ Commands, one on a line with one space between words, and their answers. P.K is 
 partition P, which has every vertex that leaves P when divided by the number of partitions. M is
 a message and C a copy, each numbered from 0 in the order that they were made; T is a superstep.
   send P.K Q      makes a message to partition Q of what changed at the node's superstep:
-                  sent M T P Q, how many vertices changed, how many stand in the message
+                  sent M T P Q, how many vertices changed, how many are in the message
   deliver M P.K   brings a message to a node, once, again or never:
                   new, known, old, too-early T, not-mine
   close P.K       takes the node on by a superstep, once it has heard every other partition:

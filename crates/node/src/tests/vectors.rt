@@ -2,7 +2,7 @@
 //! Counters have 16 registers under seed 0. `bench/vectors.py tests` prints this file, from the definitions and the formats
 //! alone: nothing of it comes from the program.
 //!
-//! A checkpoint has a line for what stands before the digest of the job, and two for that. Four follow for each vertex:
+//! A checkpoint has a line for what is before the digest of the job, and two for that. Four follow for each vertex:
 //! its mark, its estimate and harmonic centrality, its sum of distances, its registers. Then comes a line for the sum of
 //! the estimates at each superstep, one for what is heard and whether a change is, one for the registers accumulated of
 //! each vertex, one for the number of batches, and two for the SHA-256 of all that.

@@ -99,7 +99,7 @@ hears_one log2m targets b a c ok lt heard change rise truth =
 pub if_some_as : (P : BatchValue → Type 0) (a b : Option BatchValue) → a ≡ b → IfSome b P → IfSome a P
 if_some_as P a b e h = rw e h
 
--- the same that is told
+-- whoever hears what one tells hears another that tells the same
 pub hears_same : (log2m : ℕ) (targets : List (List ℕ)) (told other : ℕ → Option BatchValue) (a b : HeardState) → ((q : ℕ) → told q ≡ other q) → Hears log2m targets told a b → Hears log2m targets other a b
 hears_same log2m targets told other a b same h = grind arith
 
@@ -127,7 +127,7 @@ hears_next log2m targets told n a b c are f g =
     (λ q. told_one told n q (nat_lt q (n + 1)) (nat_lt q n) (q == n) refl refl refl)
     (λ P q. told_if P told n q (nat_lt q (n + 1)) (nat_lt q n) (q == n) refl refl refl) f g
 
--- the same from the same
+-- from equal plans, indexes and states, what is told is heard alike
 pub hears_as : {m m' : ℕ} {targets targets' : List (List ℕ)} {told : ℕ → Option BatchValue} {heard heard' : List Bool} {change : Bool} {rows rows' : List (List ℕ)} {b : HeardState} → m ≡ m' → targets ≡ targets' → heard ≡ heard' → rows ≡ rows' →
     Hears m targets told (record { heard = heard; change = change; accumulated = rows }) b → Hears m' targets' told (record { heard = heard'; change = change; accumulated = rows' }) b
 hears_as {m} {m'} {targets} {targets'} {told} {heard} {heard'} {change} {rows} {rows'} {b} p q r s h =

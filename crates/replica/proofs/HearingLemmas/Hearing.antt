@@ -84,7 +84,7 @@ also_next log2m targets told n a b c ready f g = record {
   touched = λ rows are. g.touched rows (f.touched rows are);
 }
 
--- the same that is told
+-- whoever hears what one tells hears another that tells the same
 pub also_same : (log2m : ℕ) (targets : List (List ℕ)) (told other : ℕ → Option BatchValue) (a b : HearingValue) → ((q : ℕ) → told q ≡ other q) → HearsAlso log2m targets told a b → HearsAlso log2m targets other a b
 also_same log2m targets told other a b same h = record { hears = hears_same log2m targets told other (hearing_kept a) (hearing_kept b) same h.hears; width = h.width; touched = h.touched }
 
@@ -98,7 +98,7 @@ can_hear_later plan targets n early later a can near = record {
   };
 }
 
--- the same, heard of the same
+-- from equal plans, indexes and states, what is told is heard alike
 pub hears_said : {m m' : ℕ} {targets targets' : List (List ℕ)} {told : ℕ → Option BatchValue} {heard heard' : List Bool} {change change' : Bool} {rows rows' : List (List ℕ)} {b : HeardState} → m ≡ m' → targets ≡ targets' → heard ≡ heard' → change ≡ change' → rows ≡ rows' →
     Hears m targets told (hearing_of heard change rows) b → Hears m' targets' told (hearing_of heard' change' rows') b
 hears_said {m} {m'} {targets} {targets'} {told} {heard} {heard'} {change} {change'} {rows} {rows'} {b} p q r e s h =

@@ -1,4 +1,5 @@
-//! Supersteps that are closed in many threads, and indexes that are made in many.
+//! Supersteps that are asked for in several threads, rows that are pulled in blocks, and indexes and first tables that
+//! are made in threads.
 
 use super::jobs::{Job, add_job, begun, graph};
 use super::shown::shows_all;
@@ -238,6 +239,43 @@ fn blocks_change_nothing(rt: HostRuntime) {
     let alike = match (sole_part(&rt, HUB), closed(&rt, HUB)) {
         (Some(part), Some(replica)) => are_pulled_alike(&rt, rt.alloc(), &part, &replica),
         _ => None,
+    };
+    assert_eq!(rt; alike, Some(true));
+}
+
+/// Whether both have the same rows, and the same marks.
+fn are_the_same(a: &Found, b: &Found) -> bool {
+    let mut alike = a.rows.len() == b.rows.len() && a.marks[..] == b.marks[..];
+    for i in 0..a.rows.len().min(b.rows.len()) {
+        alike = alike && a.rows.row(i) == b.rows.row(i);
+    }
+    alike
+}
+
+/// Whether the rows of a part are pulled in more blocks, at last in more than it has vertices, as they are in one.
+fn are_blocks_alike<R: Threads + Sync>(rt: &R, alloc: Global, part: &Part) -> Option<bool> {
+    let targets = Targets::of(alloc, part).ok()?;
+    let whole = pulled(rt, alloc, 0, part, &targets)?;
+    let mut alike = count_set(&whole.marks) == 1;
+    for depth in 1..5u32 {
+        alike = alike && are_the_same(&pulled(rt, alloc, depth, part, &targets)?, &whole);
+    }
+    Some(alike)
+}
+
+/// The second of two parts of a graph.
+fn second_part(rt: &HostRuntime, text: &[u8]) -> Option<Part> {
+    let graph = graph(rt, text)?;
+    let plan = graph.plan(8, 0, 2, 4096).ok()?;
+    graph.part(rt.alloc(), &plan, 1).ok()
+}
+
+/// It has five vertices (a, d, f, h and j), of which the first hears the four others, and those none of their own part.
+#[test]
+fn blocks_of_one_of_two_parts(rt: HostRuntime) {
+    let alike = match second_part(&rt, HUB) {
+        Some(part) => are_blocks_alike(&rt, rt.alloc(), &part),
+        None => None,
     };
     assert_eq!(rt; alike, Some(true));
 }

@@ -1,7 +1,7 @@
 //! Refused memory, and streams that fail. A run of the first two tests can refuse any one growth: then a node ends with
 //! want of memory, a run writes nothing, and what was refused is done when it is done again.
 
-use super::runs::{Asked, REPORT, Seen, USUAL, Written, seen};
+use super::runs::{REPORT, Seen, Trial, USUAL, Written, seen};
 use super::*;
 use edgelist::EdgeError;
 use std::thread::Threads;
@@ -33,11 +33,11 @@ fn seen_there<R: AllocGlobal + RandomSource + Threads + Wait + Sync>(
     read_fails: Option<u64>,
     write_fails: Option<u64>,
 ) -> Seen {
-    let asked = Asked {
+    let trial = Trial {
         threads: 1,
         ..USUAL
     };
-    seen(rt, &asked, &OpenGate, REPORT, read_fails, write_fails)
+    seen(rt, &trial, &OpenGate, REPORT, read_fails, write_fails)
 }
 
 /// A run that writes its report.

@@ -17,9 +17,9 @@ vertex,b,11.780376,0.665022,1.503709,208.680703,14
 vertex,c,12.417153,0.751274,0.538737,83.065637,13
 ";
 
-/// What is asked of a run, as plain data, and what it reads. Orders are lent, so nothing has to be dropped.
+/// A run to try: its options as plain data, and its input. Orders are lent, so nothing has to be dropped.
 #[derive(Clone, Copy)]
-pub struct Asked<'a> {
+pub struct Trial<'a> {
     pub input: &'a [u8],
     pub counted: Option<&'a [u8]>,
     pub estimate: Estimate,
@@ -37,7 +37,7 @@ pub struct Asked<'a> {
 }
 
 /// The two edges in one partition of one replica.
-pub const USUAL: Asked<'static> = Asked {
+pub const USUAL: Trial<'static> = Trial {
     input: TWO_EDGES,
     counted: None,
     estimate: Estimate::Raw,
@@ -55,23 +55,23 @@ pub const USUAL: Asked<'static> = Asked {
     restart: &[],
 };
 
-/// What is asked, as the options of a run; None if memory was refused.
-pub fn options_of(alloc: Global, asked: &Asked) -> Option<RunOptions> {
-    let lose = asked.lose.to_vec(alloc).ok()?;
-    let restart = asked.restart.to_vec(alloc).ok()?;
+/// The options of the run; None if memory was refused.
+pub fn options_of(alloc: Global, trial: &Trial) -> Option<RunOptions> {
+    let lose = trial.lose.to_vec(alloc).ok()?;
+    let restart = trial.restart.to_vec(alloc).ok()?;
     Some(RunOptions {
         log2m: 4,
         seed: 0,
-        parts: asked.parts,
-        limit: asked.limit,
-        estimate: asked.estimate,
-        delimiter: asked.delimiter,
-        large: asked.large,
-        threads: asked.threads,
-        replicas: asked.replicas,
-        entries: asked.entries,
-        keep: asked.keep,
-        patience: asked.patience,
+        parts: trial.parts,
+        limit: trial.limit,
+        estimate: trial.estimate,
+        delimiter: trial.delimiter,
+        large: trial.large,
+        threads: trial.threads,
+        replicas: trial.replicas,
+        entries: trial.entries,
+        keep: trial.keep,
+        patience: trial.patience,
         lose,
         restart,
     })
@@ -85,7 +85,7 @@ pub fn node(part: u16, replica: u8) -> NodeId {
 /// A run by these options, whose report goes to the writer, while a call of the reader may fail.
 fn run_into<R: AllocGlobal + RandomSource + Threads + Wait + Sync, G: Gate + Sync>(
     rt: &R,
-    asked: &Asked,
+    trial: &Trial,
     options: &RunOptions,
     gate: &G,
     read_fails: Option<u64>,
@@ -94,8 +94,8 @@ fn run_into<R: AllocGlobal + RandomSource + Threads + Wait + Sync, G: Gate + Syn
     let Ok(state) = RandomState::new(rt) else {
         return Err(RunError::Memory);
     };
-    let mut reader = MemReader::new(asked.input, read_fails);
-    run(rt, state, &mut reader, asked.counted, writer, options, gate)
+    let mut reader = MemReader::new(trial.input, read_fails);
+    run(rt, state, &mut reader, trial.counted, writer, options, gate)
 }
 
 /// What is written of a report.
@@ -129,19 +129,19 @@ pub type Seen = (Result<(), RunError>, Written);
 /// before.
 pub fn seen<R: AllocGlobal + RandomSource + Threads + Wait + Sync, G: Gate + Sync>(
     rt: &R,
-    asked: &Asked,
+    trial: &Trial,
     gate: &G,
     report: &[u8],
     read_fails: Option<u64>,
     write_fails: Option<u64>,
 ) -> Seen {
-    let Some(options) = options_of(rt.alloc(), asked) else {
+    let Some(options) = options_of(rt.alloc(), trial) else {
         return (Err(RunError::Memory), Written::Nothing);
     };
     let Ok(mut writer) = MemWriter::with_room(rt.alloc(), 4096, write_fails) else {
         return (Err(RunError::Memory), Written::Nothing);
     };
-    let answer = run_into(rt, asked, &options, gate, read_fails, &mut writer);
+    let answer = run_into(rt, trial, &options, gate, read_fails, &mut writer);
     let bytes = writer.into_bytes();
     (answer, written_in(&bytes, report))
 }
@@ -149,7 +149,7 @@ pub fn seen<R: AllocGlobal + RandomSource + Threads + Wait + Sync, G: Gate + Syn
 /// Whether a run answers so, and writes just the report, or nothing if it fails.
 pub fn ends_so<R: AllocGlobal + RandomSource + Threads + Wait + Sync, G: Gate + Sync>(
     rt: &R,
-    asked: &Asked,
+    trial: &Trial,
     gate: &G,
     answer: Result<(), RunError>,
     report: &[u8],
@@ -158,7 +158,7 @@ pub fn ends_so<R: AllocGlobal + RandomSource + Threads + Wait + Sync, G: Gate + 
         Ok(()) => Written::Whole,
         Err(_) => Written::Nothing,
     };
-    seen(rt, asked, gate, report, None, None) == (answer, written)
+    seen(rt, trial, gate, report, None, None) == (answer, written)
 }
 
 /// A gate that holds each node's first post until so many nodes have come to theirs. A node that has waited for too
@@ -232,12 +232,12 @@ impl Gate for Rendezvous {
 /// No node gives up, and the report is written.
 fn meets<R: AllocGlobal + RandomSource + Threads + Wait + Sync>(rt: &R, parts: u16) -> bool {
     let gate = Rendezvous::new(u32::from(parts));
-    let asked = Asked {
+    let trial = Trial {
         parts,
         patience: 10_000_000,
         ..USUAL
     };
-    ends_so(rt, &asked, &gate, Ok(()), REPORT) && gate.was_met()
+    ends_so(rt, &trial, &gate, Ok(()), REPORT) && gate.was_met()
 }
 
 #[test]

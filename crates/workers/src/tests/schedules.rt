@@ -2,7 +2,7 @@
 
 use super::estimates::{TREE, TREE_REPORT};
 use super::rows::{CYCLE, LONE, NOTHING, ONE_COUNTED};
-use super::runs::{Asked, REPORT, USUAL, ends_so, node};
+use super::runs::{REPORT, Trial, USUAL, ends_so, node};
 use super::*;
 use ball_model::Estimate;
 use std::thread;
@@ -53,14 +53,14 @@ fn next(state: &mut u64) -> u64 {
     *state >> 33
 }
 
-/// What is asked of a graph, its report, and the superstep at which its run ends.
-type Known = (Asked<'static>, &'static [u8], u32);
+/// A run of a graph, its report, and the superstep at which it ends.
+type Known = (Trial<'static>, &'static [u8], u32);
 
-/// What is asked of graphs, their reports, and the supersteps at which their runs end.
+/// Runs of graphs, their reports, and the supersteps at which they end.
 static GRAPHS: [Known; 6] = [
     (USUAL, REPORT, 3),
     (
-        Asked {
+        Trial {
             input: b"a\tb\nb\ta\n",
             ..USUAL
         },
@@ -68,7 +68,7 @@ static GRAPHS: [Known; 6] = [
         2,
     ),
     (
-        Asked {
+        Trial {
             input: b"x\n",
             ..USUAL
         },
@@ -76,7 +76,7 @@ static GRAPHS: [Known; 6] = [
         1,
     ),
     (
-        Asked {
+        Trial {
             input: b"",
             ..USUAL
         },
@@ -84,7 +84,7 @@ static GRAPHS: [Known; 6] = [
         1,
     ),
     (
-        Asked {
+        Trial {
             counted: Some(b"a\n"),
             ..USUAL
         },
@@ -92,7 +92,7 @@ static GRAPHS: [Known; 6] = [
         3,
     ),
     (
-        Asked {
+        Trial {
             input: TREE,
             estimate: Estimate::Corrected,
             ..USUAL
@@ -152,7 +152,7 @@ fn any_node(state: &mut u64, parts: u16, replicas: u8) -> NodeId {
     node(part as u16, replica as u8)
 }
 
-// A run at random: what is asked of its graph, the report and the superstep at which it ends; how many partitions and
+// A run at random: its graph, with the report and the superstep at which it ends; how many partitions and
 // replicas it has, how often it keeps, its orders, and with which number its nodes begin to yield.
 #[derive(Clone, Copy)]
 struct Drawn {
@@ -191,12 +191,12 @@ fn draw(state: &mut u64) -> Drawn {
 }
 
 // The partition all of whose nodes are lost up to the end of the run, if there is one. Who is lost is of one partition.
-fn lost_part(asked: &Asked, end: u32) -> Option<u16> {
-    if asked.lose.len() < usize::from(asked.replicas) {
+fn lost_part(trial: &Trial, end: u32) -> Option<u16> {
+    if trial.lose.len() < usize::from(trial.replicas) {
         return None;
     }
     let mut lost = None;
-    for (node, superstep) in asked.lose {
+    for (node, superstep) in trial.lose {
         if *superstep > end {
             return None;
         }
@@ -211,7 +211,7 @@ fn ends_as_ordered<R: AllocGlobal + RandomSource + Threads + Wait + Sync>(
     run: &Drawn,
 ) -> bool {
     let (graph, report, end) = run.graph;
-    let asked = Asked {
+    let trial = Trial {
         parts: run.parts,
         replicas: run.replicas,
         keep: run.keep,
@@ -223,11 +223,11 @@ fn ends_as_ordered<R: AllocGlobal + RandomSource + Threads + Wait + Sync>(
     let gate = Yielding {
         number: AtomicU32::new(run.yields),
     };
-    let answer = match lost_part(&asked, *end) {
+    let answer = match lost_part(&trial, *end) {
         Some(part) => Err(RunError::PartitionLost { part }),
         None => Ok(()),
     };
-    ends_so(rt, &asked, &gate, answer, *report)
+    ends_so(rt, &trial, &gate, answer, *report)
 }
 
 // How many of so many runs do not, up to the first that does not, and how many threads the widest of them has.

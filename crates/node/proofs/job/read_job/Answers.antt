@@ -8,13 +8,13 @@ returns-clause-read g c = record {
   all = c.in_ok-read.read.graph;
   mid = g.R.Read.remaining c.read_edge_section.new.reader;
   edges = c.in_ok-read.ensures.says;
-  list = c.in_ok-count_listed.ensures.counts;
-  planned = planned (numbers_of c.args.job.now.options) c.count_listed.new.graph c.in_ok-plan.plan c.in_ok-plan.ensures.value;
+  list = c.in_ok-count_section.ensures.counts;
+  planned = planned (numbers_of c.args.job.now.options) c.count_section.new.graph c.in_ok-plan.plan c.in_ok-plan.ensures.value;
 }
 
 pub returns-in_err-plan-clause-refused : goal.returns-in_err-plan-clause-refused
 returns-in_err-plan-clause-refused g c =
     let p = err_from_is_err_and c.from_residual-in_err-plan.result c.from_residual-in_err-plan.ensures.1 in
     rw (p.1, p.2)
-    (unplanned (settings_of c.args.job.now.options) c.args.job.now.counted (g.R.Read.remaining c.args.reader.now) (g.R.Read.remaining c.read_edge_section.new.reader) (g.R.Read.remaining c.count_listed.new.reader)
-    c.in_ok-read.read.graph c.count_listed.new.graph _ c.in_ok-read.ensures.says c.in_ok-count_listed.ensures.counts c.in_err-plan.ensures.refused)
+    (unplanned (settings_of c.args.job.now.options) c.args.job.now.counted (g.R.Read.remaining c.args.reader.now) (g.R.Read.remaining c.read_edge_section.new.reader) (g.R.Read.remaining c.count_section.new.reader)
+    c.in_ok-read.read.graph c.count_section.new.graph _ c.in_ok-read.ensures.says c.in_ok-count_section.ensures.counts c.in_err-plan.ensures.refused)

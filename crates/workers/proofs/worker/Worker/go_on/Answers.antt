@@ -2,7 +2,7 @@ use Rattle.std.proofs.Common.{◌∙◌, ℕ, ap, refl, sym, subst}
 use Rattle.std.proofs.lemmas.Result.{err_from_is_err_and}
 use Rattle.ball_model.specs.Caller.{Caller}
 use Rattle.ball_model.specs.Job.{Job}
-use Rattle.workers.specs.declared.superstep.SuperstepEnd.{SuperstepEnd}
+use Rattle.workers.specs.declared.worker.superstep.SuperstepEnd.{SuperstepEnd}
 use Rattle.workers.specs.Node.{FallsDue}
 use Rattle.workers.specs.Superstep.{HasStarved, IsSuperstepEnd}
 use Rattle.workers.specs.Tie.{KeptIfTold}

@@ -5,8 +5,8 @@ use Rattle.ball_model.specs.Caller.{Caller}
 use Rattle.ball_model.specs.History.{holding_in}
 use Rattle.ball_model.specs.Join.{Holding}
 use Rattle.ball_model.specs.State.{State}
-use Rattle.workers.specs.declared.node.NodeEnd.{NodeEnd}
-use Rattle.workers.specs.declared.node.NodeError.{NodeError}
+use Rattle.workers.specs.declared.worker.node_run.NodeEnd.{NodeEnd}
+use Rattle.workers.specs.declared.worker.node_run.NodeError.{NodeError}
 use Rattle.workers.specs.Superstep.{EndsAs}
 use Rattle.workers.specs.Tie.{HasPath, IsPath}
 use Rattle.workers.proofs.NodeLemmas.{end_fits, ended, out_of_memory}

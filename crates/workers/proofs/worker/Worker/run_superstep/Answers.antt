@@ -3,7 +3,7 @@ use Rattle.std.proofs.lemmas.Result.{err_from_is_err_and}
 use Rattle.ball_model.specs.Caller.{Caller}
 use Rattle.ball_model.specs.Job.{Job}
 use Rattle.ball_model.specs.State.{State}
-use Rattle.workers.specs.declared.superstep.Found.{Found}
+use Rattle.workers.specs.declared.worker.superstep.Found.{Found}
 use Rattle.workers.specs.Node.{HasToldAll}
 use Rattle.workers.specs.Superstep.{HasStarved, IsFound, StandsIn}
 use Rattle.ball_model.proofs.CheckLemmas.{on_err}

@@ -1,4 +1,4 @@
-use Rattle.workers.proofs.node.run_node.Goals as goal
+use Rattle.workers.proofs.worker.node_run.run_node.Goals as goal
 
 pub returns : goal.returns
 returns g c =

@@ -1,6 +1,6 @@
 use Rattle.std.proofs.Common.{◌∙◌}
 use Rattle.workers.proofs.PathLemmas.{start_held}
-use Rattle.workers.proofs.node.first_replica.Goals as goal
+use Rattle.workers.proofs.worker.node_run.first_replica.Goals as goal
 
 pub returns-clause-first : goal.returns-clause-first
 returns-clause-first c = λ j p job below part.

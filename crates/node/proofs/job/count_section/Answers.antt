@@ -5,7 +5,7 @@ use Rattle.ball_model.specs.RunText.{counted_in}
 use Rattle.edgelist.specs.Job.{settings_of}
 use Rattle.node.specs.Job.{CountsSome}
 use Rattle.node.proofs.JobLemmas.{counts_all, counts_listed}
-use Rattle.node.proofs.job.count_listed.Goals as goal
+use Rattle.node.proofs.job.count_section.Goals as goal
 
 pub returns-then-not-job-clause-counts : goal.returns-then-not-job-clause-counts
 returns-then-not-job-clause-counts g c =
