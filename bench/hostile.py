@@ -269,7 +269,8 @@ def without(words, data, shim, variable, call):
 
 def each_call(kind, words, data, shim, variable, wanted, first=1, missed=None):
     """Call 1, 2, .. of a kind is refused, or from a later one on, until a run in which there is no such call: then all is
-    as it should be. If it is said how many calls are missed, at most so many runs end in another way than then."""
+    as it should be. If it is said how many calls are missed, at most so many runs end in another way than then: which
+    thread comes first differs from run to run, and so does whether a missed one is met."""
     bad, call, others, plain = [], first, 0, ran(words, data)
     while len(bad) < 5:
         answer, reached = without(words, data, shim, variable, call)
