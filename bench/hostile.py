@@ -33,6 +33,8 @@ REPORT = open(os.path.join(HERE, "..", "examples", "two-edges.csv"), "rb").read(
 REPLAY = ["replay", "--log2m", "4", "--parts", "2", "--replicas", "2"]
 NODE = ["node", "--log2m", "4", "--parts", "2"]
 GATHER = ["gather", "--log2m", "4", "--parts", "2"]
+# So many runs may meet the refusal of a call that is not the same one in each run.
+FEW = 6
 SCRIPT = b"""# a worker that is kept, restarted and recovered
 send 0.0 1
 send 1.0 0
@@ -94,7 +96,7 @@ def count(kind, runs, bad, note=""):
 
 
 def is_node(data, status, output, faults):
-    """What a node has answered before a fault stands."""
+    """What a node has answered before a fault."""
     return status == 0 and not faults or is_fault(status, b"", faults)
 
 
@@ -153,7 +155,7 @@ def sized(word, body):
 
 
 def told_last(words, commands):
-    """The bytes behind the last answer of a node, which is one of sent or kept."""
+    """The bytes after the last answer of a node, which is one of sent or kept."""
     *_, (_, body) = lines_of(ran(words, EDGES + b"%%\n" + commands)[1])
     return body
 
@@ -318,8 +320,8 @@ def reading_refused(shim):
     nothing; and whichever thread, but that of the only worker, the report is the same."""
     coded = "".join(f"{v}\t{w}\n" for v in range(200) for w in range(200)).encode()
     short = ["run", "--log2m", "4", "--limit", "1"]
-    lists = ("cut", RUN, EDGES * 200000, REPORT), ("coded", short, coded, ran([*short, "--threads", "1"], coded)[1])
-    for kind, variable, missed in ("memory", "REFUSE_ALLOC", None), ("a thread", "REFUSE_THREAD", 3):
+    lists = ("cut", RUN, EDGES * 300000, REPORT), ("coded", short, coded, ran([*short, "--threads", "1"], coded)[1])
+    for kind, variable, missed in ("memory", "REFUSE_ALLOC", None), ("a thread", "REFUSE_THREAD", FEW):
         for done, words, data, report in lists:
             each_call(f"{kind} refused: a list {done} by threads", [*words, "--threads", "4"], data, shim, variable,
                       lambda *answer, report=report: answer in [(1, b"", b"hyperball: out of memory\n"), (0, report, b"")],
@@ -349,7 +351,7 @@ def refused_in_threads(shim):
     count("large supersteps, other numbers of threads", len(ways), bad)
     one, two = (how_many(["run", "--log2m", "10", "--limit", it, "--threads", "4"], data, shim, "REFUSE_THREAD") for it in "12")
     count("threads start in each large superstep", 2, [] if one < two else [(one, two)])
-    each_call("a thread refused: large supersteps", four, data, shim, "REFUSE_THREAD", holds(report), missed=3)
+    each_call("a thread refused: large supersteps", four, data, shim, "REFUSE_THREAD", holds(report), missed=FEW)
     data = edges(20000)
     report = ran([*words, "--threads", "1"], data)[1]
     begun = how_many([*four, "--lose", "0.0@0"], data, shim, "REFUSE_ALLOC")
@@ -377,7 +379,7 @@ def refusals(shim):
         return holds
 
     def cut_short(answers):
-        # A node writes as it goes on: a beginning of its answers stands.
+        # A node writes as it goes on: a beginning of its answers is there.
         def holds(status, output, faults):
             cut = status == 1 and faults == b"hyperball: out of memory\n" and answers.startswith(output)
             return cut or (status, output, faults) == (0, answers, b"")

@@ -45,7 +45,7 @@ def index_of(hashed):
 
 
 def rank_of(hashed):
-    """Where the first 1 is in the 32 bits behind the index, or 33."""
+    """Where the first 1 is in the 32 bits after the index, or 33."""
     tail = (hashed >> (32 - LOG2M)) & 0xFFFFFFFF
     return 33 - tail.bit_length()
 
@@ -223,7 +223,7 @@ def lines_of(groups):
 
 
 def piece(name, about, groups):
-    """A piece of these groups behind its comment, and with its length in that."""
+    """A piece of these groups after its comment, and with its length in that."""
     length = sum(len(group) for group in groups)
     lines = "".join(f": {line}\\\n" for line in lines_of(groups))
     return f"# {about}: {length} bytes.\n@ {name}\n{lines}"

@@ -211,6 +211,14 @@ impl Plan {
         })
     }
 
+    /// Does nothing. Its contract tells the limits of every plan, for proofs.
+    #[inline(always)]
+    pub fn limits(&self)
+        ensures { IsPlan self.now }
+    {
+        let _log2m = self.log2m();
+    }
+
     /// The binary logarithm of the number of registers.
     pub fn log2m(&self) -> u8
         ensures value { result ≡ self.now.log2m }

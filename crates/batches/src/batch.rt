@@ -147,6 +147,14 @@ impl Batch {
         &self.plan
     }
 
+    /// Does nothing. Its contract tells the limits of every batch, for proofs.
+    #[inline(always)]
+    pub fn limits(&self)
+        ensures { IsBatch self.now }
+    {
+        let _name = self.name();
+    }
+
     /// The superstep, the source and the target.
     pub fn name(&self) -> BatchName
         ensures value { result ≡ self.now.name }

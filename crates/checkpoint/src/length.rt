@@ -62,7 +62,6 @@ fn batch_length(batch: &Batch) -> u64
     ensures value { result ≡ length (batch_bytes batch.now) }
     ensures few { result + LENGTH_LEN ≤ longest_batch }
 {
-    // the limits of a batch come with its name
-    let _limits = batch.name();
+    batch.limits();
     batch.length()
 }

@@ -108,7 +108,7 @@ pub cut-none : (items : List ℕ) → lists_between items (0 ∷ []) ≡ []
 unfolding lists_between
 cut-none items = refl
 
--- the same, of places that do not have to fit 32 bits
+-- texts are added, with places that do not have to fit 32 bits
 pub record AddsText (bytes starts : List ℕ) (texts : List (List ℕ)) : Type 0 where
   pub starts_are : Ascend (length bytes) starts
   pub texts_are : lists_between bytes starts ≡ texts

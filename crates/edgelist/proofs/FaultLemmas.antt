@@ -129,7 +129,7 @@ adds-two limits n a b old new edges edges' lt form adds few = record {
   };
 }
 
--- the same, of an answer
+-- a record is added if the answer is Ok
 pub answer-one : {T : Type 0} (o : Result T EdgeError) (limits : Limits) (n : ℕ) (r : Record) (a : List ℕ) (old new : List (List ℕ)) (edges edges' : List Edge) → n < limits.edges → has_form r ≡ true → r ≡ a ∷ [] →
     OnOk o (new ≡ with_label old a) → OnOk o (edges' ≡ edges) → OnOk o (length new ≤ limits.vertices) → OnOk o (AddsRecord limits n r old edges new edges')
 answer-one (Ok t) limits n r a old new edges edges' lt form row is same few = rw row (adds-one limits n a old new edges edges' lt (rw row at form) is same few)

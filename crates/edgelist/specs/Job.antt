@@ -10,14 +10,14 @@ use Rattle.edgelist.specs.declared.job.NetworkError.{NetworkError}
 use Rattle.edgelist.specs.declared.job.NetworkError.TheVariants as fault
 
 -- what the plan is asked for by
-abbrev pub numbers_of : JobOptions → Numbers
-numbers_of o =
+abbrev pub numbers_asked : JobOptions → Numbers
+numbers_asked o =
     record (numbers_with (is_corrected o.estimate) o.log2m o.seed o.parts o.limit)
     { large = o.large }
 
 -- what the plan is asked for by, and the byte between the fields of a line
 abbrev pub settings_of : JobOptions → Settings
-settings_of o = record { numbers = numbers_of o; delimiter = byte_of o.delimiter }
+settings_of o = record { numbers = numbers_asked o; delimiter = byte_of o.delimiter }
 
 -- if a reader tells its bytes, and these and the list are plain, this holds of them
 abbrev pub WherePlain : Option (List ℕ) → Option (Bor (List ℕ)) →

@@ -6,7 +6,7 @@ ghost use Rattle.std.specs.Arc.{arc_value};
 ghost use Rattle.std.specs.List.{All};
 ghost use Rattle.ball_model.specs.PlanValue.{vertices_of, part_size};
 ghost use Rattle.ball_model.specs.Job.{feed_mask};
-ghost use Rattle.edgelist.specs.Feeding.{AreMasks, edges_into, feeds_of, masks_of, width_of};
+ghost use Rattle.edgelist.specs.Feeding.{AreMasks, edges_into, masks_of, width_of};
 
 use crate::graph::Graph;
 use crate::lists::Preds;
@@ -36,6 +36,13 @@ impl Model for Feeds {
 }
 
 impl Feeds {
+    // The feed masks of all vertices.
+    pub(crate) fn of(masks: Arc<Masks>) -> Feeds
+        ensures { result ≡ masks_of (arc_value masks) }
+    {
+        Feeds { masks }
+    }
+
     /// The masks.
     pub(crate) fn masks(&self) -> &Masks
         ensures { masks_of result.now ≡ self.now }
@@ -152,19 +159,4 @@ pub(crate) fn feeds_over(
     let mut feeds = Masks::zeros(alloc, size as usize, bits)?;
     mark_edges(&mut feeds, plan, stride, graph);
     Ok(feeds)
-}
-
-impl Graph {
-    /// Into which partitions of the plan each vertex has edges. It takes one walk over the edges, and for each vertex a
-    /// byte, or 8 if there are more than 8 partitions.
-    pub fn feeds(&self, alloc: Global, plan: &Plan) -> Result<Feeds, AllocError>
-        requires { plan.now.vertices ≡ self.now.graph.vertices }
-        ensures { IfOk result (λ feeds. feeds ≡ feeds_of self.now.graph plan.now.parts) }
-    {
-        let all = Stride { step: 1, first: 0 };
-        let masks = feeds_over(alloc, self, plan, all, self.vertices())?;
-        Ok(Feeds {
-            masks: Arc::new(alloc, masks)?,
-        })
-    }
 }

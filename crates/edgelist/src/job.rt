@@ -8,7 +8,7 @@ ghost use Rattle.ball_model.specs.RunText.{run_limits};
 ghost use Rattle.ball_model.specs.Streams.{Rises};
 ghost use Rattle.edgelist.specs.Counting.{RefusesList};
 ghost use Rattle.edgelist.specs.Given.{IsGivenUnder};
-ghost use Rattle.edgelist.specs.Job.{RefusesEdges, RefusesRead, WherePlain, numbers_of, settings_of};
+ghost use Rattle.edgelist.specs.Job.{RefusesEdges, RefusesRead, WherePlain, numbers_asked, settings_of};
 ghost use Rattle.edgelist.specs.Planning.{signed};
 ghost use Rattle.edgelist.specs.Reading.{CountsOne, Refuses, byte_of, limits_of};
 ghost use Rattle.edgelist.specs.Records.{ForPlain};
@@ -276,9 +276,9 @@ impl JobOptions {
     /// memory, and no time to speak of.
     pub fn bare_plan(&self, graph: &Graph) -> Result<Plan, PlanError>
         ensures ok { IfOk result (λ bare. Ok (signed graph.now.graph bare) ≡
-            plan_asked (numbers_of self.now) graph.now.graph) }
+            plan_asked (numbers_asked self.now) graph.now.graph) }
         ensures refused { IfErr result (λ fault. Err fault ≡
-            plan_asked (numbers_of self.now) graph.now.graph) }
+            plan_asked (numbers_asked self.now) graph.now.graph) }
         ensures job { IfOk result (λ bare. IsJob (job_of graph.now.graph
             (signed graph.now.graph bare))) }
         ensures parts { IfOk result (λ bare. bare.parts ≡ self.now.parts) }
@@ -299,7 +299,7 @@ impl JobOptions {
     /// The plan over a graph, with its job digest, or the first fault of these options. It takes no memory, and time in
     /// proportion to the edges.
     pub fn plan(&self, graph: &Graph) -> Result<Plan, PlanError>
-        ensures value { result ≡ plan_asked (numbers_of self.now) graph.now.graph }
+        ensures value { result ≡ plan_asked (numbers_asked self.now) graph.now.graph }
         ensures job { IfOk result (λ plan. IsJob (job_of graph.now.graph plan)) }
     {
         let bare = self.bare_plan(graph)?;

@@ -7,8 +7,7 @@ ghost use Rattle.std.specs.List.{All, range_with_len, sum_by};
 ghost use Rattle.gapcode.specs.Lists.{AscendsFrom};
 ghost use Rattle.ball_model.specs.Graph.{preds_of, is_counted};
 ghost use Rattle.ball_model.specs.PlanValue.{vertices_of, part_size};
-ghost use Rattle.ball_model.specs.Job.{Job, IsPart, digest_of, feed_mask, feeds_into, job_of};
-ghost use Rattle.ball_model.specs.Job.{part_of};
+ghost use Rattle.ball_model.specs.Job.{Job, IsPart, feed_mask, feeds_into, job_of, part_of};
 ghost use Rattle.ball_model.specs.Masks.{has_bit};
 ghost use Rattle.edgelist.specs.Feeding.{feeds_of, masks_of};
 
@@ -67,6 +66,15 @@ impl Part {
         ensures { result.now ≡ self.now.plan }
     {
         &self.plan
+    }
+
+    /// Does nothing. Its contract tells the limits of every part, for proofs.
+    #[inline(always)]
+    pub fn limits(&self)
+        ensures part { IsPart self.now }
+        ensures few { length self.now.preds < 2 ^ 32 }
+    {
+        let _limits = (self.partition(), self.size());
     }
 
     /// The number of the partition.
@@ -259,7 +267,12 @@ fn own_masks(alloc: Global, all: &Masks, plan: &Plan, p: u16) -> Result<Masks, A
 }
 
 // The masks that the vertices of partition `p` have, which are all of them if there is one partition.
-fn part_feeds(alloc: Global, feeds: &Feeds, plan: &Plan, p: u16) -> Result<Arc<Masks>, AllocError>
+pub(crate) fn part_feeds(
+    alloc: Global,
+    feeds: &Feeds,
+    plan: &Plan,
+    p: u16,
+) -> Result<Arc<Masks>, AllocError>
     requires part { p < plan.now.parts }
     requires count { length feeds.now ≡ plan.now.vertices }
     ensures { IfOk result (λ own. (f : ℕ → ℕ) →
@@ -274,7 +287,12 @@ fn part_feeds(alloc: Global, feeds: &Feeds, plan: &Plan, p: u16) -> Result<Arc<M
 }
 
 // The feed mask of each vertex of partition `p`, for which all edges are walked over.
-fn own_feeds(alloc: Global, graph: &Graph, plan: &Plan, p: u16) -> Result<Arc<Masks>, AllocError>
+pub(crate) fn own_feeds(
+    alloc: Global,
+    graph: &Graph,
+    plan: &Plan,
+    p: u16,
+) -> Result<Arc<Masks>, AllocError>
     requires part { p < plan.now.parts }
     requires vertices { plan.now.vertices ≡ graph.now.graph.vertices }
     ensures { IfOk result (λ feeds. masks_of (arc_value feeds) ≡ map
@@ -306,7 +324,7 @@ fn own_counts(alloc: Global, graph: &Graph, plan: &Plan, p: u16) -> Result<Vec<b
 }
 
 // The part with these masks.
-fn part_by(
+pub(crate) fn part_by(
     alloc: Global,
     graph: &Graph,
     plan: &Plan,
@@ -330,41 +348,4 @@ fn part_by(
         feeds,
         counted,
     })
-}
-
-impl Graph {
-    /// The part of partition `p` of the plan. It takes time in proportion to the vertices and edges, since it walks
-    /// over all edges for the masks, and memory in proportion to those of the partition: beside the lists 2 bytes a
-    /// vertex of it, or 9 if there are more than 8 partitions. The lists of a sole partition are shared and take none.
-    pub fn part(&self, alloc: Global, plan: &Plan, p: u16) -> Result<Part, AllocError>
-        requires below { p < plan.now.parts }
-        requires vertices { plan.now.vertices ≡ self.now.graph.vertices }
-        requires digest { plan.now.job ≡ digest_of plan.now self.now.graph }
-        ensures { IfOk result (λ part. part ≡
-            part_of (job_of self.now.graph plan.now) p) }
-    {
-        let feeds = own_feeds(alloc, self, plan, p)?;
-        part_by(alloc, self, plan, p, feeds)
-    }
-
-    /// The part of partition `p` of the plan, by the masks of all vertices ([`Graph::feeds`]), which one walk over the
-    /// edges makes for all parts. It takes time in proportion to the vertices of the partition and the edges to them,
-    /// and as much memory. The masks of a sole partition are shared too. The plan's digest is not looked at:
-    /// [`Part::with_job`] puts one in its place.
-    pub fn part_with(
-        &self,
-        alloc: Global,
-        plan: &Plan,
-        p: u16,
-        feeds: &Feeds,
-    ) -> Result<Part, AllocError>
-        requires below { p < plan.now.parts }
-        requires vertices { plan.now.vertices ≡ self.now.graph.vertices }
-        requires feeds { feeds.now ≡ feeds_of self.now.graph plan.now.parts }
-        ensures { IfOk result (λ part. part ≡
-            part_of (job_of self.now.graph plan.now) p) }
-    {
-        let own = part_feeds(alloc, feeds, plan, p)?;
-        part_by(alloc, self, plan, p, own)
-    }
 }

@@ -37,6 +37,12 @@ use std::thread::Threads;
 // The entries of so many records are looked at at once.
 const AHEAD: usize = 32;
 
+// Up to so many edges a list is small.
+const FEW: usize = 1 << 18;
+
+// So many edges take 32 MiB, which the C library leaves to the kernel: their table then grows without a copy.
+const MANY: usize = 1 << 22;
+
 /// Some lines of an edge list, and what is between the fields of each.
 #[derive(Clone, Copy)]
 pub(crate) struct Lines<'a> {
@@ -114,6 +120,11 @@ fn push_edge(edges: &mut Vec<Edge>, target: u32, source: u32) -> Result<(), Allo
 {
     edges.push(Edge { target, source })?;
     Ok(())
+}
+
+// For how many edges there is to be room if there are so many.
+fn room_for(edges: usize) -> usize {
+    if edges <= FEW { edges } else { edges.max(MANY) }
 }
 
 impl Reading {
@@ -310,11 +321,15 @@ impl Reading {
     }
 
     /// Makes room for so many edges more, if there is memory. An edge for which there is none makes it when it is added.
+    /// Rooms are powers of 2.
     pub(crate) fn make_room(&mut self, count: usize)
         ensures labels { self.new.labels ≡ self.old.labels }
         ensures edges { self.new.edges.items ≡ self.old.edges.items }
     {
-        let _room = self.edges.reserve(count);
+        let len = self.edges.len();
+        if let Some(room) = room_for(len.saturating_add(count)).checked_next_power_of_two() {
+            let _room = self.edges.reserve(room.saturating_sub(len));
+        }
     }
 
     // Looks at the entries of the labels of the records from i on, if i is the first of so many.

@@ -117,12 +117,12 @@ fn fill_pieces<S: CountedRead>(
     Ok(gives)
 }
 
-// The bytes of pieces that follow so many records: about as many, so that the pieces of a short list take little memory.
+// The bytes of pieces that follow so many records: few at first, so that the pieces of a short list take little memory.
 fn size_after(number: u64) -> usize {
     match number {
-        0..=32_767 => 16_384,
-        32_768..=65_535 => 32_768,
-        65_536..=131_071 => 65_536,
+        0..=131_071 => 16_384,
+        131_072..=262_143 => 32_768,
+        262_144..=524_287 => 65_536,
         _ => PIECE,
     }
 }

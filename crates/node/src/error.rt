@@ -17,13 +17,13 @@ pub enum JobInputError {
     #[error("{0}")]
     Edges(EdgeError),
     /// No line of %% ends the edge list.
-    #[error("no line %% behind the edge list")]
+    #[error("no line %% after the edge list")]
     NoMark,
     /// No line of %% is within the first 2^64 - 1 bytes.
     #[error("the edge list is longer than 18446744073709551614 bytes")]
     EdgesSize,
     /// No line of %% ends the list of counted vertices.
-    #[error("no line %% behind the list")]
+    #[error("no line %% after the list")]
     NoListMark,
     /// The list of counted vertices has more than 2^26 bytes.
     #[error("the list is longer than 67108864 bytes")]

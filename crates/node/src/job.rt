@@ -8,7 +8,7 @@ ghost use Rattle.ball_model.specs.Job.{IsJob, job_of, part_of};
 ghost use Rattle.ball_model.specs.RunText.{network_in, plan_asked};
 ghost use Rattle.ball_model.specs.Streams.{RisesByOne};
 ghost use Rattle.edgelist.specs.Given.{IsGivenUnder};
-ghost use Rattle.edgelist.specs.Job.{numbers_of, settings_of};
+ghost use Rattle.edgelist.specs.Job.{numbers_asked, settings_of};
 ghost use Rattle.edgelist.specs.Reading.{meaning_under};
 ghost use Rattle.edgelist.specs.declared.read.Delimiter.{Delimiter};
 ghost use Rattle.node.specs.Job.{CountsSome, GivesEdges, HasRecords, IsJobRead, SaysNetwork};
@@ -156,10 +156,10 @@ fn count_section<R: CountedRead>(
 // The plan over a graph, or the first fault of the options. It takes no memory.
 fn plan_for(graph: &Graph, job: &JobInput) -> Result<Plan, JobInputError>
     ensures value { IfOk result (λ plan.
-        Ok plan ≡ plan_asked (numbers_of job.now.options) graph.now.graph) }
+        Ok plan ≡ plan_asked (numbers_asked job.now.options) graph.now.graph) }
     ensures job { IfOk result (λ plan. IsJob (job_of graph.now.graph plan)) }
     ensures refused { IfErr result
-        (IsUnplanned (plan_asked (numbers_of job.now.options) graph.now.graph)) }
+        (IsUnplanned (plan_asked (numbers_asked job.now.options) graph.now.graph)) }
 {
     let plan = job.options.plan(graph)?;
     Ok(plan)

@@ -155,11 +155,9 @@ fn answer_keep<W: CountedWrite>(
         (W.contents writer.old) (W.contents writer.new)) }
     ensures write { FailsAs W.failed_calls writer.old writer.new result (Err TellError.Write) }
 {
-    // the limits of a replica come with its superstep, those of its figures with these
-    let superstep = replica.superstep();
-    let _limits = replica.tallies();
+    replica.limits();
     line.clear();
-    put_kept(line, superstep, checkpoint_length(replica))?;
+    put_kept(line, replica.superstep(), checkpoint_length(replica))?;
     write_lines(writer, line)?;
     match write_checkpoint(replica, writer) {
         Ok(()) => Ok(()),

@@ -4,7 +4,7 @@ use Rattle.std.proofs.lemmas.Bool.{cases_lt}
 use Rattle.std.proofs.lemmas.List.{get_or-append_right, get_or_append_left, get_or-set_other, get_or-set_same, get_or_default, length-append, same_lists}
 use Rattle.ball_model.specs.Table.{Table, pieces}
 use Rattle.registers.specs.Lending.{with_cells}
-use Rattle.registers.specs.Relay.{DifferWhere, room_for}
+use Rattle.registers.specs.Differ.{DifferWhere, room_for}
 use Rattle.registers.specs.Taken.{AreThoseFrom, CanTakeBlock}
 use Rattle.registers.proofs.TableLemmas.{length-pieces, pieces-append, same_table, with_all_cells}
 

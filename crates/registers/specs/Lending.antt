@@ -3,7 +3,7 @@ use Rattle.std.specs.Prelude.{ℕ, List, ◌++◌, length, take, drop}
 use Rattle.std.specs.Borrow.{Lends, MutBor, Fml, u8, Array}
 use Rattle.std.specs.List.{concat}
 use Rattle.ball_model.specs.Table.{Table, pieces}
-use Rattle.registers.specs.Relay.{room_for}
+use Rattle.registers.specs.Differ.{room_for}
 use Rattle.registers.specs.contracts.rows.Rows.{the_row}
 
 -- the table with other registers: fewer are filled up from its own, and what is over is left out

@@ -1,3 +1,4 @@
+pub mod Differ
 pub mod Flags
 pub mod Glance
 pub mod Joined
@@ -5,6 +6,5 @@ pub mod Laws
 pub mod Lending
 pub mod Marks
 pub mod Raised
-pub mod Relay
 pub mod Shape
 pub mod Taken

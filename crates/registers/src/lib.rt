@@ -31,7 +31,6 @@ pub mod join;
 mod lanes;
 pub mod marks;
 pub mod mask;
-pub mod relay;
 pub mod rows;
 mod takes;
 
@@ -39,8 +38,8 @@ pub use join::{Join, reconcile};
 use lanes::{HALF, LANES, raise_half, raise_lanes};
 pub use marks::next_marked;
 pub use mask::SourceMask;
-pub use relay::{Behind, Relay};
 pub use rows::{LINE, Rows, glance_over};
+pub use takes::take_over;
 
 #[cfg(test)]
 mod tests;

@@ -3,7 +3,7 @@
 ghost use Rattle.std.specs.Prelude.{◌≡◌, ◌+◌, ◌*◌, ◌<◌, ◌≤◌, length};
 ghost use Rattle.std.specs.Thread.{IsSync};
 ghost use Rattle.ball_model.specs.Table.{pieces};
-ghost use Rattle.registers.specs.Relay.{DifferWhere};
+ghost use Rattle.registers.specs.Differ.{DifferWhere};
 ghost use Rattle.registers.specs.Taken.{AreThoseFrom, CanTakeBlock};
 
 use crate::rows::put_piece;

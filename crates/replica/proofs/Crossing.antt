@@ -12,8 +12,8 @@ use Rattle.replica.specs.contracts.first.FirstTables as first
 use Rattle.replica.specs.contracts.progress.Progress as progress
 use Rattle.replica.specs.contracts.replica.Replica as replica
 use Rattle.replica.specs.contracts.replica.Snapshot as snapshot
+use Rattle.replica.specs.contracts.relay.tallies.Tallies as tallies
 use Rattle.replica.specs.contracts.tables.Tables as tables
-use Rattle.replica.specs.contracts.tallies.Tallies as tallies
 use Rattle.replica.specs.contracts.targets.Targets as targets
 
 tallies_send : IsSend tallies.the_row
@@ -23,10 +23,10 @@ tallies_sync : IsSync tallies.the_row
 tallies_sync = search (tally_send, tally_sync, sendable, crosses) depth 30 fits 20000
 
 pub tables_send : IsSend tables.the_row
-tables_send = search (rows_send, rows_sync, tallies_send, sendable, crosses) depth 30 fits 20000
+tables_send = search (rows_send, rows_sync, tallies_send, tallies_sync, sendable, crosses) depth 30 fits 20000
 
 pub tables_sync : IsSync tables.the_row
-tables_sync = search (rows_send, rows_sync, tallies_sync, sendable, crosses) depth 30 fits 20000
+tables_sync = search (rows_send, rows_sync, tallies_send, tallies_sync, sendable, crosses) depth 30 fits 20000
 
 pub progress_send : IsSend progress.the_row
 progress_send = search (part_send, part_sync, rows_send, tables_send, batch_send, batch_sync, sendable, crosses) depth 30 fits 20000

@@ -17,7 +17,7 @@ use Rattle.replica.proofs.SpreadLemmas.{above_stays, length-spread, spread-at, s
 use Rattle.replica.proofs.HeardLemmas.{own_stands}
 use Rattle.replica.specs.Heard.{SpreadsOwn, StayTouched}
 use Rattle.registers.specs.Lending.{with_cells}
-use Rattle.registers.specs.Relay.{room_for}
+use Rattle.registers.specs.Differ.{room_for}
 use Rattle.replica.specs.Pull.{raised_over, rows_at, told_rows, is_told, pulled_row, ArePulled, CanPullBlock, CanPullOwn, PullsBlock, PullsRows}
 
 -- ---- a row, raised by others

@@ -1,19 +1,13 @@
 -- Tallies that are handed out and go on in another table.
 use Rattle.std.proofs.Common.{◌≡◌, ℕ, ◌<◌, List, [], length, map, get_or, arith}
-use Rattle.replica.proofs.Names.{sum_by, length-map-range_with_len, TallyValue, Measure, estimate_with, no_figures, value_of, Tally, Option, Some}
+use Rattle.replica.proofs.Names.{sum_by, length-map-range_with_len, TallyValue, Measure, estimate_with, no_figures, value_of, Tally}
 use Rattle.replica.specs.Level.{next_tally, next_tallies}
-use Rattle.replica.specs.Tallies.{shown_tallies}
 use Rattle.replica.proofs.LevelLemmas.Next.{map_lasts, sum_same}
 
 -- as many figures as rows
 pub length-next_tallies : (m : Measure) (t : ℕ) (rows : List (List ℕ)) (old : List TallyValue) (n : ℕ) → length (next_tallies m t rows old n) ≡ n
 unfolding next_tallies
 length-next_tallies m t rows old n = length-map-range_with_len (λ i. next_tally t (get_or old i no_figures) (estimate_with m (get_or rows i []))) 0 n
-
--- what was handed out is what is shown
-pub handed_out_is : (own : List TallyValue) {shown table : List TallyValue} {out : Option (List TallyValue)} → shown_tallies own out ≡ shown → out ≡ Some table → table ≡ shown
-unfolding shown_tallies
-handed_out_is own is some = rw some at is
 
 -- figures whose estimate stays are as they were
 pub still : (t e : ℕ) (v : TallyValue) → 0 < t → v.last ≡ e → next_tally t v e ≡ v

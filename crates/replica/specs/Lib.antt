@@ -9,7 +9,6 @@ pub mod Change
 pub mod Start
 pub mod Tables
 pub mod First
-pub mod Tallies
 pub mod Seen
 pub mod Sent
 pub mod Merged
@@ -19,3 +18,5 @@ pub mod Waiting
 pub mod Saved
 pub mod Progress
 pub mod Pull
+pub mod Relay
+pub mod RelayLaws

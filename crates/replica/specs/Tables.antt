@@ -8,11 +8,12 @@ use Rattle.ball_model.specs.PlanValue.{greatest_limit, measure_of, most_vertices
 use Rattle.ball_model.specs.Table.{Table}
 use Rattle.figures.specs.Values.{weight_of}
 use Rattle.registers.specs.Joined.{AreSameShape}
-use Rattle.registers.specs.Relay.{DifferWhere, Marked}
+use Rattle.registers.specs.Differ.{DifferWhere}
 use Rattle.replica.specs.Heard.{OwnIsHeard}
 use Rattle.replica.specs.Hearing.{HearingValue, IsQuiet, KeepsAll}
 use Rattle.replica.specs.Kept.{AllRise, AreCounters, AreLasts, AreSums}
 use Rattle.replica.specs.Level.{differences, next_tally, next_tallies, total_of, weights_of}
+use Rattle.replica.specs.Relay.{Marked}
 use Rattle.replica.specs.Spread.{LeadInside}
 use Rattle.replica.specs.Start.{first_figures, first_rows_of_part}
 
@@ -58,7 +59,7 @@ pub record AreAhead (log2m : ℕ) (rows : Table) (h : HearingValue) : Type 0 whe
   pub kept : KeepsAll rows.rows h
 
 -- the rows as they were before they went on: those that were handed out, or else those that are shown
-unfoldable pub rows_before : Table → Option Marked → Table
+unfoldable pub rows_before : Table → Option (Marked Table) → Table
 rows_before rows None = rows
 rows_before rows (Some before) = before.table
 
@@ -84,7 +85,7 @@ pub record CanStepRow (m : Measure) (t : ℕ) (old new : List ℕ) (own last : �
   pub grown : last ≤ estimate_with m new
 
 -- they can be stepped, row by row, as the rows go on to those ahead, from which they differ where they are marked
-pub record CanStepMarked (m : Measure) (t : ℕ) (rows : Table) (before : Option Marked) (new : Table)
+pub record CanStepMarked (m : Measure) (t : ℕ) (rows : Table) (before : Option (Marked Table)) (new : Table)
     (marks : List Bool) (own : List ℕ) (tallies : List TallyValue) : Type 0 where
   pub differ : DifferWhere marks rows new
   pub can : CanBeStepped m t (rows_before rows before) new marks own tallies

@@ -96,8 +96,7 @@ type Beside = (Hearing, Vec<u64>);
 fn begin_beside(alloc: Global, part: &Part) -> Result<Beside, AllocError>
     ensures { IfOk result (λ beside. BeginsBeside part.now beside.0 beside.1.items) }
 {
-    // the limits of a part come with its number
-    let _limits = part.partition();
+    part.limits();
     let rows = start::start_rows(alloc, part)?;
     let mut weights = Vec::with_capacity(alloc, rows.len())?;
     weigh(part.plan(), &rows, &mut weights);

@@ -8,8 +8,9 @@ ghost use Rattle.replica.specs.Level.{AreAsMany, differences};
 ghost use Rattle.replica.specs.Tables.{AreStepped, CanBeStepped, CanStepMarked, CanStepRow};
 ghost use Rattle.replica.specs.Tables.{IsStepped, rows_before};
 
+use crate::relay::{Behind, Relay};
 use figures::{Estimator, Tally, moved_weight};
-use registers::{Behind, Relay, Rows, next_marked};
+use registers::{Rows, next_marked};
 
 /// The superstep that is closed, and how estimates are made.
 #[derive(Clone, Copy, Drop)]
@@ -52,7 +53,7 @@ pub fn clear_marks(marks: &mut [bool])
 /// figures of rows that did not change stay as they are, and the rows become those ahead.
 pub fn step_rows(
     step: &Step<'_>,
-    rows: &mut Relay,
+    rows: &mut Relay<Rows>,
     weights: &mut [u64],
     tallies: &mut [Tally],
 ) -> u128
@@ -72,8 +73,8 @@ pub fn step_rows(
 #[inline(never)]
 fn step_marked(
     step: &Step<'_>,
-    before: &Option<Behind>,
-    rows: &mut Relay,
+    before: &Option<Behind<Rows>>,
+    rows: &mut Relay<Rows>,
     weights: &mut [u64],
     tallies: &mut [Tally],
 ) -> u128
@@ -96,12 +97,12 @@ fn step_marked(
 
 // Row `i` as it was.
 #[inline]
-fn row_before<'a>(before: &'a Option<Behind>, rows: &'a Relay, i: usize) -> &'a [u8]
+fn row_before<'a>(before: &'a Option<Behind<Rows>>, rows: &'a Relay<Rows>, i: usize) -> &'a [u8]
     requires { i < length (rows_before rows.now before.now).rows }
     ensures { result.now ≡ slice_index_or (rows_before rows.now before.now).rows i [] }
 {
     match before {
-        Some(before) => before.rows().row(i),
+        Some(before) => before.table().row(i),
         None => rows.get().row(i),
     }
 }

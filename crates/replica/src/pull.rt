@@ -18,7 +18,7 @@ use edgelist::Part;
 use registers::{LINE, Rows, glance_over, max_into};
 use std::thread::{Threads, available_parallelism, join_mut};
 
-// Below so many bytes of registers that changed, or below as many rows as are many, threads cost more than they save.
+// Below so many bytes of registers that changed, and below as many rows as are many, threads cost more than they save.
 const FEW: usize = 1 << 23;
 
 // From so many bytes of rows on threads have blocks to choose from. What is beside the registers of a row counts as some
@@ -36,8 +36,11 @@ const RAISE: usize = 20;
 // Into how many blocks many rows are cut for each processor, as a power of 2, if all are to work.
 const BLOCKS: u32 = 2;
 
-// More threads than these do not work on a superstep.
+// More threads than these are not counted, and there are no more blocks, of which each has a thread.
 const MOST_THREADS: usize = 1024;
+
+// How often rows are halved for so many.
+const MOST_HALVINGS: u32 = 10;
 
 // How many rows are glanced at before the first of them raises another one.
 const AHEAD: usize = 8;
@@ -147,8 +150,7 @@ fn pull_piece(pull: &Pull<'_>, from: usize, k: usize, cells: &mut [u8]) -> bool
         cells.old cells.new result }
 {
     let (part, rows, marks) = (pull.part, pull.rows, pull.marks);
-    // the limits of a part come with its size
-    let _limits = part.size();
+    part.limits();
     let width = rows.width();
     let start = k * width;
     let i = (from + k) as u32;
@@ -173,8 +175,7 @@ fn middle(part: &Part, from: usize, count: usize) -> usize
     requires { from + count ≤ length part.now.preds }
     ensures { result ≤ count }
 {
-    // the limits of a part come with its size
-    let _limits = part.size();
+    part.limits();
     part.middle(from as u32, (from + count) as u32) as usize - from
 }
 
@@ -257,8 +258,7 @@ pub fn pull_own<R: Threads + Sync>(
     ensures { SpreadsOwn (targets_of own.now.part.now) own.now.part.now own.now.rows.now.rows
         own.now.marks.now accumulated.old accumulated.new touched.old touched.new }
 {
-    // the limits of a part come with its number
-    let _limits = own.part.partition();
+    own.part.limits();
     let pull = Pull {
         part: own.part,
         rows: own.rows,
@@ -269,14 +269,14 @@ pub fn pull_own<R: Threads + Sync>(
 }
 
 // How often rows are halved for so many threads, of which 1,024 count: there are no more blocks than threads. If all
-// processors are to work on many rows there are some more, since blocks take unequal times.
+// processors are to work on many rows there are four times as many, up to 1,024, since blocks take unequal times.
 fn halvings<R: Threads>(rt: &R, threads: usize, width: usize, marks: &[bool]) -> u32
     requires { width < 2 ^ 16 }
 {
     let whole = usize::BITS - (threads.min(MOST_THREADS) / 2).leading_zeros();
     match available_parallelism(rt) {
         Ok(processors) if threads < processors.get() => whole,
-        _ if are_marked(marks, many_rows(width)) => whole + BLOCKS,
+        _ if are_marked(marks, many_rows(width)) => (whole + BLOCKS).min(MOST_HALVINGS),
         _ => whole,
     }
 }

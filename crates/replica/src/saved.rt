@@ -110,8 +110,7 @@ fn are_counters(rows: &Rows, plan: &Plan) -> bool
     requires { rows.now.width ≡ 2 ^ plan.now.log2m }
     ensures { IsTrue result ↔ AreCounters plan.now.log2m rows.now.rows }
 {
-    // the limits of a plan come with its number of registers
-    let _limits = plan.log2m();
+    plan.limits();
     for i in 0..rows.len() {
         if !rows.row(i).iter().all(|rank| *rank <= GREATEST_RANK) {
             return false;
@@ -147,8 +146,7 @@ fn are_sources(part: &Part, heard: SourceMask) -> bool
 {
     let parts = part.plan().parts();
     let own = part.partition();
-    // that a mask has 64 flags comes with its bits
-    let _limits = heard.bits();
+    heard.limits();
     for q in parts..MOST_PARTS {
         if heard.has(q) {
             return false;
@@ -162,8 +160,7 @@ fn all_rise(rows: &Rows, accumulated: &Rows, plan: &Plan) -> bool
     requires { AreOfWidth plan.now rows.now accumulated.now }
     ensures { IsTrue result ↔ AllRise plan.now.log2m rows.now.rows accumulated.now.rows }
 {
-    // the limits of a plan come with its number of registers
-    let _limits = plan.log2m();
+    plan.limits();
     for i in 0..rows.len() {
         if !rises(rows.row(i), accumulated.row(i)) {
             return false;

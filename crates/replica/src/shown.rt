@@ -63,14 +63,15 @@ pub trait Shown {
         s.superstep
     }
 
-    /// Does nothing. Its contract tells the limits that every replica keeps, for proofs.
+    /// Does nothing. Its contract tells the limits that every replica keeps, whatever its batches say, for proofs.
     final fn limits(&self)
-        ensures { IsState (state self.now) }
+        ensures state { IsState (state self.now) }
+        ensures figures { All IsFigures (state self.now).tallies }
     {
-        let _superstep = self.superstep();
+        let _limits = (self.superstep(), self.tallies().len());
     }
 
-    /// Whether vertex `x` is one of the partition.
+    /// Whether vertex `x` is one of the partition. For a library's user: the program does not call it.
     final fn owns(&self, x: u32) -> bool
         ensures vertex { IsTrue result → x < (state self.now).part.plan.vertices }
         ensures own { IsTrue result →

@@ -7,8 +7,9 @@ ghost use Rattle.replica.specs.Stepping.{CanStepBlock, StepsBlock};
 ghost use Rattle.replica.specs.Tables.{AreStepped, CanBeStepped, rows_before};
 
 use crate::level::{Step, step_rows, step_tally};
+use crate::relay::{Behind, Relay};
 use figures::Tally;
-use registers::{Behind, Relay, Rows, next_marked};
+use registers::{Rows, next_marked};
 use std::thread::{Threads, join_mut};
 
 // A step, with the rows as they were, which is done by blocks that are halved so often.
@@ -43,8 +44,7 @@ fn step_block(
 {
     let (step, old, from, marks) = (blocks.step, blocks.old, span.from, span.marks);
     let ahead = step.ahead;
-    // the limits of a table come with its length
-    let _limits = ahead.len();
+    ahead.limits();
     let mut gain = 0;
     let mut k = next_marked(marks, 0);
     while k < marks.len() {
@@ -100,8 +100,7 @@ fn step_both<R: Threads + Sync>(
         half.now.step.now.ahead.now span.now.from (map value_of tallies.old)
         (map value_of tallies.new) weights.new result }
 {
-    // the limits of a table come with its length
-    let _limits = half.step.ahead.len();
+    half.step.ahead.limits();
     let mid = span.marks.len() / 2;
     let (first, last) = span.marks.split_at(mid);
     let (front, back) = weights.split_at_mut(mid);
@@ -135,11 +134,11 @@ fn step_both<R: Threads + Sync>(
 }
 
 // The rows of the superstep before: those that were handed out, or else those that are shown.
-fn table_before<'a>(before: &'a Option<Behind>, rows: &'a Relay) -> &'a Rows
+fn table_before<'a>(before: &'a Option<Behind<Rows>>, rows: &'a Relay<Rows>) -> &'a Rows
     ensures { result.now ≡ rows_before rows.now before.now }
 {
     match before {
-        Some(before) => before.rows(),
+        Some(before) => before.table(),
         None => rows.get(),
     }
 }
@@ -148,7 +147,7 @@ fn table_before<'a>(before: &'a Option<Behind>, rows: &'a Relay) -> &'a Rows
 fn step_blocks<R: Threads + Sync>(
     rt: &R,
     step: &Step<'_>,
-    rows: &mut Relay,
+    rows: &mut Relay<Rows>,
     weights: &mut [u64],
     tallies: &mut [Tally],
 ) -> u128
@@ -179,7 +178,7 @@ fn step_blocks<R: Threads + Sync>(
 pub fn step_rows_by<R: Threads + Sync>(
     rt: &R,
     step: &Step<'_>,
-    rows: &mut Relay,
+    rows: &mut Relay<Rows>,
     weights: &mut [u64],
     tallies: &mut [Tally],
 ) -> u128

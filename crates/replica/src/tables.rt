@@ -9,11 +9,11 @@ ghost use Rattle.replica.specs.Tables.{AreFirst, AreRefilled, CanStep, HasRoomFo
 use crate::hearing::Hearing;
 use crate::level::{Closing, Step};
 use crate::pull::halvings_for;
-use crate::tallies::Tallies;
+use crate::relay::{Relay, Tallies};
 use crate::{level, start};
 use edgelist::Part;
 use figures::{Estimator, Tally};
-use registers::{Relay, Rows};
+use registers::Rows;
 use std::alloc::{AllocError, Global};
 use std::marker::Model;
 use std::thread::Threads;
@@ -22,9 +22,9 @@ use std::thread::Threads;
 /// superstep so far.
 #[derive(Drop)]
 pub struct Tables {
-    rows: Relay,
+    rows: Relay<Rows>,
     marks: Vec<bool>,
-    tallies: Tallies,
+    tallies: Relay<Tallies>,
     // if a replica has them there is room for a sum of each superstep up to the limit
     sums: Vec<u128>,
 }
@@ -47,8 +47,7 @@ impl Tables {
         requires { estimator.now ≡ measure_of part.now.plan }
         ensures { IfOk result (AreFirst part.now) }
     {
-        // the limits of a part come with its number
-        prove!(part.partition() < part.plan().parts());
+        part.limits();
         let marks = start::start_marks(alloc, part)?;
         let rows = start::start_rows(alloc, part)?;
         let tallies = start::start_tallies(alloc, estimator, &rows)?;
@@ -72,7 +71,7 @@ impl Tables {
         Tables {
             rows: Relay::new(rows),
             marks,
-            tallies: Tallies::of(tallies),
+            tallies: Relay::new(Tallies::of(tallies)),
             sums,
         }
     }
@@ -98,7 +97,7 @@ impl Tables {
     pub fn tallies(&self) -> &[Tally]
         ensures { map value_of result.now ≡ self.now.tallies }
     {
-        self.tallies.get()
+        self.tallies.get().items()
     }
 
     /// The sum of their estimates at each superstep so far.

@@ -11,6 +11,7 @@ mod jobs;
 mod joins;
 mod rebuilt;
 mod refusals;
+mod relay;
 mod runs;
 mod script;
 mod shown;

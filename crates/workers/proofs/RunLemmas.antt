@@ -11,7 +11,7 @@ use Rattle.ball_model.specs.RunText.{AreRead, HasPlan, IsReport, IsReportOf, Num
 use Rattle.ball_model.specs.declared.plan.PlanError.{PlanError}
 use Rattle.ball_model.proofs.BoolLemmas.{by_cases}
 use Rattle.edgelist.specs.Job as edges
-use Rattle.edgelist.specs.Job.{numbers_of, settings_of}
+use Rattle.edgelist.specs.Job.{numbers_asked, settings_of}
 use Rattle.edgelist.specs.Records.{ForPlain}
 use Rattle.edgelist.specs.declared.counting.CountedError.TheVariants as counted
 use Rattle.edgelist.specs.declared.job.JobOptions.{JobOptions}
@@ -44,8 +44,8 @@ where_job o asked told counted P is h = subst (λ (a : JobOptions). edges.WhereP
 pub plain_job : (o : RunOptions) (asked : JobOptions) (told : Option (List ℕ)) (P : Settings → List ℕ → Type 0) → asked ≡ run_job o → ForPlain told (λ input. P (settings_of asked) input) → ForPlain told (λ input. P (settings_of (run_job o)) input)
 plain_job o asked told P is h = subst (λ (a : JobOptions). ForPlain told (λ input. P (settings_of a) input)) is h
 
-pub plan_job : (o : RunOptions) (asked : JobOptions) (g : Graph) (r : Result PlanValue PlanError) → asked ≡ run_job o → r ≡ plan_asked (numbers_of asked) g → r ≡ plan_asked (numbers_of (run_job o)) g
-plan_job o asked g r is h = subst (λ (a : JobOptions). r ≡ plan_asked (numbers_of a) g) is h
+pub plan_job : (o : RunOptions) (asked : JobOptions) (g : Graph) (r : Result PlanValue PlanError) → asked ≡ run_job o → r ≡ plan_asked (numbers_asked asked) g → r ≡ plan_asked (numbers_asked (run_job o)) g
+plan_job o asked g r is h = subst (λ (a : JobOptions). r ≡ plan_asked (numbers_asked a) g) is h
 
 -- what is refused before there is a network
 pub refuses_read : (s : Settings) (input : List ℕ) (list : Option (List ℕ)) (e : NetworkError) → edges.RefusesRead s input list e → IsRunRefusal s input list (network_fault e)
@@ -212,7 +212,7 @@ pub ok_first : {T : Type 0} (W : JobError → Type 0) (x : T) (f : JobError) →
 ok_first W x f other is = absurd (cc)
 
 -- of a network that was read
-pub job_first : {T : Type 0} (o : RunOptions) (network : Network) (plan : PlanValue) (e : JobError) → plan_asked (numbers_of (run_job o)) network.graph ≡ Ok plan → (e ≢ job.Memory → IsFirstFault (job_of network.graph plan) o e) →
+pub job_first : {T : Type 0} (o : RunOptions) (network : Network) (plan : PlanValue) (e : JobError) → plan_asked (numbers_asked (run_job o)) network.graph ≡ Ok plan → (e ≢ job.Memory → IsFirstFault (job_of network.graph plan) o e) →
     (f : JobError) → f ≢ job.Memory → ◌≡◌ {A = Result T RunError} (Err (job_fault e)) (Err (job_fault f)) → HasFirstFault o network f
 job_first o network plan e asked first f other is =
     let same : e ≡ f = sym (told_back e) ∙ (ap told_fault (same_error (job_fault e) (job_fault f) is) ∙ told_back f) in
@@ -256,7 +256,7 @@ unread_by o asked told counted e is refuses of_edges = record {
 }
 
 -- the network is read, and answered
-pub told_report : (o : RunOptions) (told : Option (List ℕ)) (counted : Option (Bor (List ℕ))) (network : Network) (r : Result (List ℕ) RunError) → AnswersNetwork (numbers_of (run_job o)) network r → WherePlain o told counted (λ s input list. AreRead s input list network) → ForPlain told (λ input. IsOk (network_in (settings_of (run_job o)) input)) → IfOk r (TellsReport o told counted)
+pub told_report : (o : RunOptions) (told : Option (List ℕ)) (counted : Option (Bor (List ℕ))) (network : Network) (r : Result (List ℕ) RunError) → AnswersNetwork (numbers_asked (run_job o)) network r → WherePlain o told counted (λ s input list. AreRead s input list network) → ForPlain told (λ input. IsOk (network_in (settings_of (run_job o)) input)) → IfOk r (TellsReport o told counted)
 told_report o told counted network (Err e) answer read ok = tt
 told_report o told counted network (Ok text) answer read ok = record {
   report =
@@ -265,15 +265,15 @@ told_report o told counted network (Ok text) answer read ok = record {
   edges = ok;
 }
 
-pub told_none : (o : RunOptions) (told : Option (List ℕ)) (counted : Option (Bor (List ℕ))) (network : Network) (r : Result (List ℕ) RunError) → AnswersNetwork (numbers_of (run_job o)) network r → IfErr r (IsFaultIn o) → ((f : JobError) → f ≢ job.Memory → r ≡ Err (job_fault f) → HasFirstFault o network f) → WherePlain o told counted (λ s input list. AreRead s input list network) →
+pub told_none : (o : RunOptions) (told : Option (List ℕ)) (counted : Option (Bor (List ℕ))) (network : Network) (r : Result (List ℕ) RunError) → AnswersNetwork (numbers_asked (run_job o)) network r → IfErr r (IsFaultIn o) → ((f : JobError) → f ≢ job.Memory → r ≡ Err (job_fault f) → HasFirstFault o network f) → WherePlain o told counted (λ s input list. AreRead s input list network) →
     ForPlain told (λ input. IsOk (network_in (settings_of (run_job o)) input)) → IfErr r (TellsNone o told counted)
 told_none o told counted network (Ok text) answer options first read ok = tt
 told_none o told counted network (Err e) answer options first read ok = record {
   input =
       where_weaker o told counted (λ s input list. AreRead s input list network) (λ s input list. IsRunRefusal s input list e)
       (λ input h. refuses_network (settings_of (run_job o)) input (list_in counted) network e h answer) read;
-  edges = λ input known plain. later_edge (settings_of (run_job o)) (numbers_of (run_job o)) input network e answer (ok input known plain);
+  edges = λ input known plain. later_edge (settings_of (run_job o)) (numbers_asked (run_job o)) input network e answer (ok input known plain);
   options = options;
-  unwritten = λ is. subst (λ (x : RunError). RefusesNetwork (numbers_of (run_job o)) network x) is answer;
+  unwritten = λ is. subst (λ (x : RunError). RefusesNetwork (numbers_asked (run_job o)) network x) is answer;
   first = λ f other is. network_first o told counted network f read (first f other (ap Err is));
 }

@@ -10,7 +10,7 @@ use Rattle.ball_model.specs.RunText.{IsReportOf}
 use Rattle.ball_model.specs.RunText.{Numbers, Settings, list_in, network_in, plan_asked}
 use Rattle.edgelist.specs.Reading.{Refuses}
 use Rattle.edgelist.specs.Counting.{IsListRefusal}
-use Rattle.edgelist.specs.Job.{numbers_of, settings_of}
+use Rattle.edgelist.specs.Job.{numbers_asked, settings_of}
 use Rattle.edgelist.specs.Records.{ForPlain}
 use Rattle.edgelist.specs.declared.job.NetworkError.{NetworkError}
 use Rattle.edgelist.specs.declared.job.NetworkError.TheVariants as unread
@@ -54,7 +54,7 @@ job_fault (job.Starved node s q) = fault.Starved node s q
 -- over a network there is such a plan, and the fault is the first of the ends of all nodes
 pub record HasFirstFault (o : RunOptions) (network : Network) (e : JobError) : Type 0 where
   pub plan : PlanValue
-  pub planned : plan_asked (numbers_of (run_job o)) network.graph ≡ Ok plan
+  pub planned : plan_asked (numbers_asked (run_job o)) network.graph ≡ Ok plan
   pub first : IsFirstFault (job_of network.graph plan) o e
 
 -- and both say that network

@@ -7,7 +7,7 @@ ghost use Rattle.ball_model.specs.PlanValue.{mixing_of};
 ghost use Rattle.ball_model.specs.Report.{report_of};
 ghost use Rattle.ball_model.specs.RunText.{network_in};
 ghost use Rattle.ball_model.specs.Streams.{Rises, RisesByOne};
-ghost use Rattle.edgelist.specs.Job.{numbers_of, settings_of};
+ghost use Rattle.edgelist.specs.Job.{numbers_asked, settings_of};
 ghost use Rattle.edgelist.specs.Reading.{CountsOne};
 ghost use Rattle.edgelist.specs.Records.{ForPlain};
 ghost use Rattle.workers.specs.declared.ends.JobError.{JobError as NodesFault};
@@ -160,7 +160,7 @@ impl<'a, T: AllocGlobal + Threads + Wait + Sync, G: Gate + Watch + Sync> Watched
     // The text of the report of a graph.
     fn graph_text(&self, graph: &Graph) -> Result<Pages, RunError>
         requires limits { are_in_limits self.now.options.now ≡ true }
-        ensures answer { AnswersNetwork (numbers_of (run_job self.now.options.now)) graph.now result }
+        ensures answer { AnswersNetwork (numbers_asked (run_job self.now.options.now)) graph.now result }
         ensures fault { IfErr result (IsFaultIn self.now.options.now) }
         ensures first { (f : NodesFault) → f ≢ JobError.Memory → result ≡ Err (job_fault f) →
             HasFirstFault self.now.options.now graph.now f }

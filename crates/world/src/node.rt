@@ -169,7 +169,6 @@ fn keepable(replica: &Replica)
     ensures { IsKeepable replica.now }
 {
     replica.limits();
-    let _limits = replica.tallies();
 }
 
 // The checkpoint of a replica. The error is that memory was refused.

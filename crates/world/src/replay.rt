@@ -2,16 +2,21 @@
 
 ghost use Rattle.std.specs.Prelude.{◌≡◌, IfErr, IfOk, IsOk, OnOk};
 ghost use Rattle.ball_model.specs.Input.{IsPlain};
+ghost use Rattle.ball_model.specs.Job.{Job};
 ghost use Rattle.ball_model.specs.RunText.{ArePlain, list_in, network_in};
-ghost use Rattle.ball_model.specs.WorldText.{AppendsReplay, HasCommands, script_of};
-ghost use Rattle.edgelist.specs.Job.{numbers_of, settings_of};
+ghost use Rattle.ball_model.specs.World.{World as Defined, after_event};
+ghost use Rattle.ball_model.specs.WorldText.{AppendsReplay, HasCommands, event_text, events_text};
+ghost use Rattle.ball_model.specs.WorldText.{script_of};
+ghost use Rattle.edgelist.specs.Job.{numbers_asked, settings_of};
 ghost use Rattle.world.specs.Replay.{AppendsSomeReplay, FailsOfReplay, IsBegun, IsEarly, IsReady};
 ghost use Rattle.world.specs.Replay.{RefusesCommands, RefusesStart, replay_job, replay_of};
+ghost use Rattle.world.specs.Shows.{Shows};
+ghost use Rattle.world.specs.Tell.{Tells};
 
 use crate::World;
 use crate::bytes::Bytes;
 use crate::script::{first_fault, read_script};
-use crate::tell::TellError;
+use crate::tell::{TellError, is_shown, is_want, node_of, show_close, tell_node, tell_outcome};
 use ball_model::plan::MOST_REPLICAS;
 use ball_model::world::Event;
 use ball_model::{CountedWrite, Estimate, PlanError};
@@ -154,7 +159,7 @@ fn begin(
 ) -> Result<(Vec<Event>, World), ReplayError>
     ensures ok { IsOk (script_of script.now) → IfOk result (λ both. IsBegun
         (replay_of options.now) graph.now script.now both.0.items both.1) }
-    ensures refused { IfErr result (RefusesStart (numbers_of (replay_job options.now)) graph.now) }
+    ensures refused { IfErr result (RefusesStart (numbers_asked (replay_job options.now)) graph.now) }
 {
     let plan = options.job().plan(graph)?;
     let events = read_script(alloc, script)?;
@@ -165,9 +170,9 @@ fn begin(
 /// A replay that is watched: where its memory is from, what is asked of it, and who watches.
 #[derive(Clone, Copy)]
 pub(crate) struct WatchedReplay<'a, V> {
-    pub(crate) alloc: Global,
+    alloc: Global,
     options: &'a ReplayOptions,
-    pub(crate) watch: &'a V,
+    watch: &'a V,
 }
 
 impl<'a, V: Watch> WatchedReplay<'a, V> {
@@ -189,6 +194,48 @@ impl<'a, V: Watch> WatchedReplay<'a, V> {
         let read = job.read_network(self.alloc, state, &mut Bytes::new(edges), counted)?;
         self.watch.after_read(read.records, read.graph.vertices());
         begin(self.alloc, &read.graph, script, self.options)
+    }
+
+    // An event happens, and its answer is written.
+    fn tell_event<W: CountedWrite>(
+        &self,
+        world: &mut World,
+        event: Event,
+        line: &mut Vec<u8>,
+        writer: &mut W,
+    ) -> Result<(), TellError>
+        ensures told { (j : Job) (w : Defined) → Shows j w world.old →
+            Tells W.contents W.failed_calls writer.old writer.new (event_text j w event) result }
+        ensures shows { (j : Job) (w : Defined) → Shows j w world.old →
+            OnOk result (Shows j (after_event j w event) world.new) }
+    {
+        let outcome = world.apply(self.alloc, event);
+        if is_want(outcome) {
+            return Err(TellError::Memory);
+        }
+        show_close(world, event, outcome, self.watch);
+        if is_shown(outcome) {
+            return tell_node(world, node_of(event), line, writer);
+        }
+        tell_outcome(outcome, line, writer)
+    }
+
+    // Events happen one after the other, and the answer of each is written. A watch is called when a node goes on.
+    fn tell_events<W: CountedWrite>(
+        &self,
+        world: &mut World,
+        events: &[Event],
+        writer: &mut W,
+    ) -> Result<(), TellError>
+        ensures { (j : Job) (w : Defined) → Shows j w world.old →
+            Tells W.contents W.failed_calls writer.old writer.new
+            (events_text j w events.now) result }
+    {
+        let mut line = Vec::new(self.alloc);
+        for event in events {
+            self.tell_event(world, *event, &mut line, writer)?;
+        }
+        Ok(())
     }
 }
 

@@ -8,8 +8,8 @@ ghost use Rattle.ball_model.specs.Join.{Holding};
 ghost use Rattle.ball_model.specs.Held.{HasHolding};
 ghost use Rattle.ball_model.specs.PlanValue.{part_size};
 ghost use Rattle.ball_model.specs.State.{own_vertices};
-ghost use Rattle.ball_model.specs.World.{World as Defined, after_event, node_at, node_of};
-ghost use Rattle.ball_model.specs.WorldText.{event_text, events_text, node_line, outcome_text};
+ghost use Rattle.ball_model.specs.World.{World as Defined, node_at, node_of};
+ghost use Rattle.ball_model.specs.WorldText.{node_line, outcome_text};
 ghost use Rattle.ball_model.specs.WorldText.{row_text, show_text, show_unless};
 ghost use Rattle.world.specs.Runs.{is_want};
 ghost use Rattle.world.specs.Shows.{Shows};
@@ -17,7 +17,6 @@ ghost use Rattle.world.specs.Tell.{Tells, is_shown};
 
 use crate::World;
 use crate::answer::{put_answer, put_node, put_refusal, put_vertex};
-use crate::replay::WatchedReplay;
 use ball_model::world::{Answer, Event, WorldError};
 use ball_model::{CountedWrite, NodeId, put_all};
 use edgelist::Watch;
@@ -132,7 +131,7 @@ pub fn tell_replica<W: CountedWrite>(
 }
 
 // Tells a node of a world, if there is one.
-fn tell_node<W: CountedWrite>(
+pub(crate) fn tell_node<W: CountedWrite>(
     world: &World,
     id: NodeId,
     line: &mut Vec<u8>,
@@ -149,14 +148,14 @@ fn tell_node<W: CountedWrite>(
 }
 
 // Whether memory was refused.
-fn is_want(outcome: Result<Answer, WorldError>) -> bool
+pub(crate) fn is_want(outcome: Result<Answer, WorldError>) -> bool
     ensures { result ≡ is_want outcome }
 {
     matches!(outcome, Err(WorldError::Memory))
 }
 
 // Whether a node was looked at.
-fn is_shown(outcome: Result<Answer, WorldError>) -> bool
+pub(crate) fn is_shown(outcome: Result<Answer, WorldError>) -> bool
     ensures { result ≡ is_shown outcome }
 {
     matches!(outcome, Ok(Answer::Shown))
@@ -174,7 +173,7 @@ fn put_outcome(line: &mut Vec<u8>, outcome: Result<Answer, WorldError>) -> Resul
 }
 
 // Tells what an event came to.
-fn tell_outcome<W: CountedWrite>(
+pub(crate) fn tell_outcome<W: CountedWrite>(
     outcome: Result<Answer, WorldError>,
     line: &mut Vec<u8>,
     writer: &mut W,
@@ -188,7 +187,7 @@ fn tell_outcome<W: CountedWrite>(
 }
 
 // The node of an event.
-fn node_of(event: Event) -> NodeId
+pub(crate) fn node_of(event: Event) -> NodeId
     ensures { result ≡ node_of event }
 {
     match event {
@@ -204,7 +203,7 @@ fn node_of(event: Event) -> NodeId
 }
 
 // A watch is called if the node of an event went on.
-fn show_close<V: Watch>(
+pub(crate) fn show_close<V: Watch>(
     world: &World,
     event: Event,
     outcome: Result<Answer, WorldError>,
@@ -217,49 +216,5 @@ fn show_close<V: Watch>(
         replica.limits();
         let vertices = replica.plan().part_size(replica.partition());
         watch.after_close(node, superstep, replica.changed_count(), vertices);
-    }
-}
-
-impl<'a, V: Watch> WatchedReplay<'a, V> {
-    // An event happens, and its answer is written.
-    fn tell_event<W: CountedWrite>(
-        &self,
-        world: &mut World,
-        event: Event,
-        line: &mut Vec<u8>,
-        writer: &mut W,
-    ) -> Result<(), TellError>
-        ensures told { (j : Job) (w : Defined) → Shows j w world.old →
-            Tells W.contents W.failed_calls writer.old writer.new (event_text j w event) result }
-        ensures shows { (j : Job) (w : Defined) → Shows j w world.old →
-            OnOk result (Shows j (after_event j w event) world.new) }
-    {
-        let outcome = world.apply(self.alloc, event);
-        if is_want(outcome) {
-            return Err(TellError::Memory);
-        }
-        show_close(world, event, outcome, self.watch);
-        if is_shown(outcome) {
-            return tell_node(world, node_of(event), line, writer);
-        }
-        tell_outcome(outcome, line, writer)
-    }
-
-    /// Events happen one after the other, and the answer of each is written. A watch is called when a node goes on.
-    pub(crate) fn tell_events<W: CountedWrite>(
-        &self,
-        world: &mut World,
-        events: &[Event],
-        writer: &mut W,
-    ) -> Result<(), TellError>
-        ensures { (j : Job) (w : Defined) → Shows j w world.old →
-            Tells W.contents W.failed_calls writer.old writer.new
-            (events_text j w events.now) result }
-    {
-        let mut line = Vec::new(self.alloc);
-        for event in events {
-            self.tell_event(world, *event, &mut line, writer)?;
-        }
-        Ok(())
     }
 }

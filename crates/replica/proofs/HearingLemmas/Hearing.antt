@@ -2,7 +2,7 @@
 use Rattle.std.proofs.Common.{◌≡◌, ℕ, ◌+◌, ◌<◌, Bool, false, List, [], length, get_or, replicate, ap, sym, ◌∙◌, subst, arith, ◌⊎◌}
 use Rattle.replica.proofs.Names.{common_steps, Option, list_any, same_lists, get_or_default, get_or-map-range_with_len, false_from_ne_true, BatchValue, PlanValue, early_at, Table, list_any_at}
 use Rattle.std.proofs.lemmas.Bool.{both_ways}
-use Rattle.registers.specs.Relay.{DifferWhere}
+use Rattle.registers.specs.Differ.{DifferWhere}
 use Rattle.registers.specs.Laws.{max_each-repeats}
 use Rattle.replica.specs.Ahead.{ComesNearer}
 use Rattle.replica.specs.Hearing.{CanHear, HeardState, HearingValue, Hears, HearsAlso, IsQuiet, HearsByIndex, hearing_of, KeepsAll, KeepsAllOrNone, SaysSame, accumulators_of, batch_by, hearing_kept}

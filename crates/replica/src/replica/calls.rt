@@ -80,8 +80,7 @@ impl Replica {
         requires first { BeginsAs (arc_value part) first }
         ensures { IfOk result (λ r. Starts (arc_value part) r) }
     {
-        // the limits of a part come with its number
-        prove!(part.partition() < part.plan().parts());
+        part.limits();
         let early = Early::empty(alloc, part.plan().parts())?;
         let FirstTables {
             tables,
@@ -147,8 +146,7 @@ impl Replica {
         let answer = self.progress.answer(&batch);
         match answer {
             Ok(Taken::New) => {
-                // the limits of a batch come with its name
-                let _limits = batch.name();
+                batch.limits();
                 self.progress.receive(&self.targets, batch);
                 answer
             }
@@ -188,10 +186,10 @@ impl Replica {
             .close_level(&self.targets, &self.estimator, &mut self.weights)
     }
 
-    /// Closes the superstep as [`Replica::close`] does, in so many threads. If many vertices changed, each accumulator
-    /// is raised by the rows of its own predecessors ("pulled") by one thread, so that threads share nothing that is
-    /// written. If there are as many threads as processors, some more are made, since parts of the work take unequal
-    /// times.
+    /// Closes the superstep as [`Replica::close`] does, in so many threads, or the next power of 2 below. If many vertices
+    /// changed, each accumulator is raised by the rows of its own predecessors ("pulled") by one thread, so that threads
+    /// share nothing that is written. If there are as many threads as processors, there are up to four times as many,
+    /// since parts of the work take unequal times.
     ///
     /// Errors are those of `close`. It takes no memory but that of its threads, which it joins; a thread that cannot be
     /// started is done without. It takes the time of `close`, over the processors if many vertices changed.

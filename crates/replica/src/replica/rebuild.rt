@@ -43,8 +43,7 @@ fn rebuilt(alloc: Global, part: Arc<Part>, saved: Saved) -> Result<Progress, All
     requires { Fits (arc_value part) saved }
     ensures { IfOk result (λ k. IsRemade (arc_value part) saved k) }
 {
-    // the limits of a part come with its number
-    prove!(part.partition() < part.plan().parts());
+    part.limits();
     let touched = hearing::differences(alloc, &saved.rows, &saved.accumulated)?;
     // in room for a sum of each superstep up to the limit
     let mut sums = Vec::with_capacity(alloc, part.plan().limit() as usize + 1)?;

@@ -10,7 +10,7 @@ use Rattle.checkpoint.proofs.length.early_length.Goals as goal
 pub overflow_add-length : goal.overflow_add-length
 overflow_add-length c =
     let v = c.args.replica.now in
-    let s = c.limits.ensures in
+    let s = c.limits.ensures.state in
     omega (arith, c.loop-i.invariant.few, c.nth_length-length.ensures.few, c.early_count-i-end.ensures.value, early_few v.part.plan.parts v.early s.early.table, s.part.plan.parts_to)
 
 pub loop-i-preserved : goal.loop-i-preserved
@@ -28,5 +28,5 @@ returns-clause-value c =
 pub returns-clause-few : goal.returns-clause-few
 returns-clause-few c =
     let v = c.args.replica.now in
-    let s = c.limits.ensures in
+    let s = c.limits.ensures.state in
     omega (arith, c.loop-i.invariant.few, c.early_count-i-end.ensures.value, early_few v.part.plan.parts v.early s.early.table, s.part.plan.parts_to)

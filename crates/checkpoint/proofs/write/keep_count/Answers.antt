@@ -7,7 +7,7 @@ use Rattle.checkpoint.proofs.write.keep_count.Goals as goal
 pub overflow_cast-count : goal.overflow_cast-count
 overflow_cast-count g c =
     let v = c.args.replica.now in
-    let s = c.limits.ensures in
+    let s = c.limits.ensures.state in
     omega (arith, c.early_count-count.ensures.value, early_few v.part.plan.parts v.early s.early.table, s.part.plan.parts_to)
 
 pub returns-clause-done : goal.returns-clause-done

@@ -1,5 +1,5 @@
 use Rattle.std.proofs.lemmas.Result.{err_from_is_err_and}
-use Rattle.edgelist.specs.Job.{numbers_of, settings_of}
+use Rattle.edgelist.specs.Job.{numbers_asked, settings_of}
 use Rattle.node.proofs.JobLemmas.{planned, unplanned}
 use Rattle.node.proofs.job.read_job.Goals as goal
 
@@ -9,7 +9,7 @@ returns-clause-read g c = record {
   mid = g.R.Read.remaining c.read_edge_section.new.reader;
   edges = c.in_ok-read.ensures.says;
   list = c.in_ok-count_section.ensures.counts;
-  planned = planned (numbers_of c.args.job.now.options) c.count_section.new.graph c.in_ok-plan.plan c.in_ok-plan.ensures.value;
+  planned = planned (numbers_asked c.args.job.now.options) c.count_section.new.graph c.in_ok-plan.plan c.in_ok-plan.ensures.value;
 }
 
 pub returns-in_err-plan-clause-refused : goal.returns-in_err-plan-clause-refused

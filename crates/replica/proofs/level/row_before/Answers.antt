@@ -5,7 +5,7 @@ use Rattle.replica.proofs.level.row_before.Goals as goal
 
 pub row-requires : goal.row-requires
 unfolding rows_before
-row-requires c = rw c.rows.ensures (rw c.in-Some.is at c.requires)
+row-requires c = rw c.table.ensures (rw c.in-Some.is at c.requires)
 
 pub row-requires-in-None : goal.row-requires-in-None
 unfolding rows_before
@@ -15,7 +15,7 @@ pub returns-in-Some : goal.returns-in-Some
 unfolding rows_before
 returns-in-Some c =
     let was : rows_before c.args.rows.now c.args.before.now ≡ c.in-Some.before.table = rw c.in-Some.is refl in
-    c.row.ensures.value ∙ ap (λ (table : Table). slice_index_or table.rows c.args.i []) (c.rows.ensures ∙ sym was)
+    c.row.ensures.value ∙ ap (λ (table : Table). slice_index_or table.rows c.args.i []) (c.table.ensures ∙ sym was)
 
 pub returns-in-None : goal.returns-in-None
 unfolding rows_before

@@ -6,7 +6,7 @@ pub returns-in-Some : goal.returns-in-Some
 unfolding rows_before
 returns-in-Some c =
     let was : rows_before c.args.rows.now c.args.before.now ≡ c.in-Some.before.table = rw c.in-Some.is refl in
-    c.rows.ensures ∙ sym was
+    c.table.ensures ∙ sym was
 
 pub returns-in-None : goal.returns-in-None
 unfolding rows_before

@@ -31,4 +31,4 @@ has_size v s =
     }
 
 pub returns-clause-size : goal.returns-clause-size
-returns-clause-size g c = has_size c.args.replica.now c.limits.ensures
+returns-clause-size g c = has_size c.args.replica.now c.limits.ensures.state

@@ -10,4 +10,4 @@ feeds_over-requires-clause-size c = c.vertices.ensures.count ∙ sym c.requires 
 
 pub returns : goal.returns
 unfolding feeds_of
-returns c = ap (λ (m : Masks). masks_of m) c.in_ok-new.ensures.ok ∙ c.in_ok-masks.ensures ∙ ap (map (feed_mask c.args.self.now.graph c.args.plan.now.parts)) (vertices-all c.args.self.now.graph.vertices)
+returns c = c.of.ensures ∙ ap (λ (m : Masks). masks_of m) c.in_ok-new.ensures.ok ∙ c.in_ok-masks.ensures ∙ ap (map (feed_mask c.args.self.now.graph c.args.plan.now.parts)) (vertices-all c.args.self.now.graph.vertices)

@@ -23,10 +23,10 @@ is_remade c =
     let a = arc_value c.args.part in
     let s = c.args.saved in
     let sums = c.refill.new.sums in
-    let limit : c.limit.result ≡ a.plan.limit = c.limit.ensures.value ∙ ap (λ (p : PlanValue). p.limit) (c.plan-2.ensures ∙ ap (λ (p : PartValue). p.plan) c.deref-3.ensures) in
+    let limit : c.limit.result ≡ a.plan.limit = c.limit.ensures.value ∙ ap (λ (p : PlanValue). p.limit) (c.plan.ensures ∙ ap (λ (p : PartValue). p.plan) c.deref-2.ensures) in
     let room : a.plan.limit + 1 ≤ vec_capacity sums = omega (arith, limit, c.refill.ensures.capacity, c.in_ok-sums.ensures.capacity) in
-    let early : KeepsInPlace a.plan a.number s.superstep (map arc_value s.early.items) c.in_ok-early.early = rw (← c.deref-5.ensures, ← c.deref-6.ensures.value) c.in_ok-early.ensures in
-    remade (after c) s sums.items (vec_capacity sums) c.in_ok-touched.touched.items (subst (λ (p : PartValue). IsPart p) c.deref.ensures c.partition.ensures.part) c.requires refl c.of.ensures (c.refill.ensures.items ∙ c.deref-4.ensures.value) room c.of-2.ensures c.in_ok-touched.ensures early.placed early.told
+    let early : KeepsInPlace a.plan a.number s.superstep (map arc_value s.early.items) c.in_ok-early.early = rw (← c.deref-4.ensures, ← c.deref-5.ensures.value) c.in_ok-early.ensures in
+    remade (after c) s sums.items (vec_capacity sums) c.in_ok-touched.touched.items (subst (λ (p : PartValue). IsPart p) c.deref.ensures c.limits.ensures.part) c.requires refl c.of.ensures (c.refill.ensures.items ∙ c.deref-3.ensures.value) room c.of-2.ensures c.in_ok-touched.ensures early.placed early.told
 
 pub invariant_of-result : goal.invariant_of-result
 invariant_of-result c = (is_remade c).limits

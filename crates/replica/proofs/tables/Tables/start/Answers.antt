@@ -5,10 +5,10 @@ use Rattle.replica.proofs.StartLemmas.Start.{first_counters, length-first_rows, 
 use Rattle.replica.proofs.tables.Tables.start.Goals as goal
 
 pub start_tallies-requires : goal.start_tallies-requires
-start_tallies-requires c = rw (c.requires, ap (λ (t : Table). t.rows) c.in_ok-rows.ensures) (first_counters c.args.part.now c.partition.ensures.part.plan)
+start_tallies-requires c = rw (c.requires, ap (λ (t : Table). t.rows) c.in_ok-rows.ensures) (first_counters c.args.part.now c.limits.ensures.part.plan)
 
 pub of-requires-clause-marks : goal.of-requires-clause-marks
-of-requires-clause-marks c = rw (c.in_ok-marks.ensures, c.in_ok-rows.ensures) (c.partition.ensures.part.counted ∙ sym c.partition.ensures.part.preds ∙ sym (length-first_rows c.args.part.now))
+of-requires-clause-marks c = rw (c.in_ok-marks.ensures, c.in_ok-rows.ensures) (c.limits.ensures.part.counted ∙ sym c.limits.ensures.part.preds ∙ sym (length-first_rows c.args.part.now))
 
 pub returns : goal.returns
 returns c =
@@ -21,5 +21,5 @@ returns c =
       marks = c.in_ok-marks.ensures;
       tallies = c.in_ok-tallies.ensures ∙ rw (c.requires, rows) refl;
       sums = c.push_reserved.ensures.items ∙ rw (c.in_ok-sums.ensures.items, total, c.requires, rows) refl;
-      room = omega (arith, c.push_reserved.ensures.capacity, c.in_ok-sums.ensures.capacity, c.limit.ensures.value, ap (λ (a : PlanValue). a.limit) c.plan-2.ensures);
+      room = omega (arith, c.push_reserved.ensures.capacity, c.in_ok-sums.ensures.capacity, c.limit.ensures.value, ap (λ (a : PlanValue). a.limit) c.plan.ensures);
     })

@@ -7,7 +7,7 @@ use Rattle.workers.specs.declared.ends.JobError.{JobError}
 use Rattle.workers.specs.declared.ends.JobError.TheVariants as job
 use Rattle.workers.specs.declared.options.RunOptions.{RunOptions}
 use Rattle.workers.specs.Job.{IsFaultOf}
-use Rattle.edgelist.specs.Job.{numbers_of}
+use Rattle.edgelist.specs.Job.{numbers_asked}
 use Rattle.workers.specs.Options.{run_job}
 use Rattle.workers.specs.Run.{IsFaultIn, job_fault}
 use Rattle.ball_model.specs.PlanValue.{PlanValue}
@@ -31,12 +31,12 @@ returns-in_err-planned-clause-answer g c =
     let o = c.args.self.now.options.now in
     let graph = c.args.graph.now.graph in
     let p = err_from_is_err_and c.from_residual-in_err-planned.result c.from_residual-in_err-planned.ensures.1 in
-    rw (p.1, p.2) (planned (numbers_of (run_job o)) graph (signed graph c.in_ok-bare.bare) (plan_job o c.job-job.result graph _ c.job-job.ensures c.in_ok-bare.ensures.ok))
+    rw (p.1, p.2) (planned (numbers_asked (run_job o)) graph (signed graph c.in_ok-bare.bare) (plan_job o c.job-job.result graph _ c.job-job.ensures c.in_ok-bare.ensures.ok))
 
 pub returns-in_err-replicas-clause-answer : goal.returns-in_err-replicas-clause-answer
 returns-in_err-replicas-clause-answer g c =
     let o = c.args.self.now.options.now in
-    let n = numbers_of (run_job o) in
+    let n = numbers_asked (run_job o) in
     let network = c.args.graph.now in
     let p = err_from_is_err_and c.from_residual-in_err-replicas.result c.from_residual-in_err-replicas.ensures.1 in
     rw (p.1, p.2) (refuses_job n network c.in_err-replicas.field-0.0 (planned n network.graph (signed network.graph c.in_ok-bare.bare) (plan_job o c.job-job.result network.graph _ c.job-job.ensures c.in_ok-bare.ensures.ok)))
@@ -48,7 +48,7 @@ returns-in_err-replicas-clause-first g c =
     let plan : PlanValue = c.in_ok-planned.planned.plan in
     let p = err_from_is_err_and c.from_residual-in_err-replicas.result c.from_residual-in_err-replicas.ensures.1 in
     let bare = plan_job o c.job-job.result graph _ c.job-job.ensures c.in_ok-bare.ensures.ok in
-    let asked : plan_asked (numbers_of (run_job o)) graph ≡ Ok plan = sym (rw c.in_ok-planned.ensures.plan bare) in
+    let asked : plan_asked (numbers_asked (run_job o)) graph ≡ Ok plan = sym (rw c.in_ok-planned.ensures.plan bare) in
     rw (p.1, p.2) (job_first o c.args.graph.now plan c.in_err-replicas.field-0.0 asked c.in_err-replicas.ensures.first)
 
 pub returns-in_err-replicas-clause-fault : goal.returns-in_err-replicas-clause-fault
@@ -64,11 +64,11 @@ returns-in_err-text-clause-answer g c =
     let o = c.args.self.now.options.now in
     let graph = c.args.graph.now.graph in
     let p = err_from_is_err_and c.from_residual-in_err-text.result c.from_residual-in_err-text.ensures.1 in
-    rw (p.1, p.2) (planned (numbers_of (run_job o)) graph (signed graph c.in_ok-bare.bare) (plan_job o c.job-job.result graph _ c.job-job.ensures c.in_ok-bare.ensures.ok))
+    rw (p.1, p.2) (planned (numbers_asked (run_job o)) graph (signed graph c.in_ok-bare.bare) (plan_job o c.job-job.result graph _ c.job-job.ensures c.in_ok-bare.ensures.ok))
 
 pub returns-clause-answer : goal.returns-clause-answer
 returns-clause-answer g c =
     let o = c.args.self.now.options.now in
     let graph = c.args.graph.now.graph in
     let bare = plan_job o c.job-job.result graph _ c.job-job.ensures c.in_ok-bare.ensures.ok in
-    report_planned (numbers_of (run_job o)) c.args.graph.now c.in_ok-planned.planned.plan c.in_ok-text.text (rw c.in_ok-planned.ensures.plan bare) c.in_ok-text.ensures
+    report_planned (numbers_asked (run_job o)) c.args.graph.now c.in_ok-planned.planned.plan c.in_ok-text.text (rw c.in_ok-planned.ensures.plan bare) c.in_ok-text.ensures

@@ -29,7 +29,7 @@ returns-clause-came g c =
     let snapshot : State = arc_value c.in-Some.snapshot in
     let called = MatchOption-at_some _ _ c.in-Some.snapshot c.in-Some.is c.in_ok-snapshot.ensures.found in
     let theirs = MatchOption-at_some _ _ c.in-Some.snapshot c.in-Some.is c.in_ok-snapshot.ensures.snapshot in
-    let state : IsState snapshot = subst IsState c.deref.ensures c.limits-2.ensures in
+    let state : IsState snapshot = subst IsState c.deref.ensures c.limits-2.ensures.state in
     let absorbs : Absorbs r snapshot c.merge.new.self =
     subst (λ (o : State). Absorbs r o c.merge.new.self) c.deref-2.ensures (record { part = c.merge.ensures.part; shown = c.in-Ok.ensures.shown; names = c.in-Ok.ensures.names; stands = c.in-Ok.ensures.stands }) in
-    come_by_call v _ p _ (holding_in r) _ called (sym (number_is v.seen.job p _ r c.requires.stands)) (sym (held_merged v.seen.job p _ _ r snapshot c.merge.new.self c.requires.stands theirs c.limits.ensures state absorbs)) tt (λ keep. tt)
+    come_by_call v _ p _ (holding_in r) _ called (sym (number_is v.seen.job p _ r c.requires.stands)) (sym (held_merged v.seen.job p _ _ r snapshot c.merge.new.self c.requires.stands theirs c.limits.ensures.state state absorbs)) tt (λ keep. tt)

@@ -11,4 +11,4 @@ returns c = λ j.
     let w = c.close-closed.new.self in
     let kept = (the_view c.self.inside).kept in
     subst (λ (s : SeenNode). Turns j (closed_turn j) c.answer_to_close.result s (node w kept)) c.self.view_is
-    (close_turns j c.close-closed.result c.answer_to_close.result v w kept c.close-closed.ensures.step c.limits.ensures c.answer_to_close.ensures)
+    (close_turns j c.close-closed.result c.answer_to_close.result v w kept c.close-closed.ensures.step c.limits.ensures.state c.answer_to_close.ensures)

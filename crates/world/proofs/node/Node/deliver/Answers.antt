@@ -13,4 +13,4 @@ returns c = λ j is named.
     let kept = (the_view c.self.inside).kept in
     let name = (arc_value c.args.batch).name in
     subst (λ (s : SeenNode). Turns j (taken_turn j name) c.answer_to_take.result s (node w kept)) c.self.view_is
-    (take_turns j name c.take-taken.result c.answer_to_take.result v w kept (λ p. c.take-taken.ensures.step j p is) c.limits.ensures c.answer_to_take.ensures)
+    (take_turns j name c.take-taken.result c.answer_to_take.result v w kept (λ p. c.take-taken.ensures.step j p is) c.limits.ensures.state c.answer_to_take.ensures)

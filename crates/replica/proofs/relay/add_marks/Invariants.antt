@@ -1,0 +1,10 @@
+use Rattle.std.proofs.Common.{◌≡◌, ℕ, ◌<◌, ◌≤◌, slice_index_or, length, false}
+use Rattle.std.specs.Prelude.{◌||◌}
+use Rattle.replica.proofs.relay.add_marks.Given as goal
+
+abbrev pub invariant-loop-i : goal.invariant-loop-i
+invariant-loop-i l = record {
+  long : length l.marks ≡ length l.initial.marks;
+  done : (k : ℕ) → k < l.i → slice_index_or l.marks k false ≡ (slice_index_or l.initial.marks k false || slice_index_or l.more k false);
+  rest : (k : ℕ) → l.i ≤ k → slice_index_or l.marks k false ≡ slice_index_or l.initial.marks k false;
+}

@@ -1,0 +1,19 @@
+use Rattle.std.proofs.Common.{sym, subst, ◌∙◌}
+use Rattle.ball_model.specs.Table.{Table}
+use Rattle.registers.specs.Differ.{DifferWhere}
+use Rattle.replica.specs.Relay.{shown_of}
+use Rattle.replica.proofs.relay.rows.Relay+Rows.put_marked.Goals as goal
+
+pub take_over-requires : goal.take_over-requires
+unfolding shown_of
+take_over-requires g c = (c.type_bounds.sync-R, subst (λ (t : Table). DifferWhere c.args.marks.now t c.args.ahead.now) (sym (c.part.ensures.own ∙ c.self.view_is)) c.requires)
+
+pub invariant_of-self : goal.invariant_of-self
+unfolding shown_of
+invariant_of-self g c =
+    let differ : DifferWhere c.args.marks.now (shown_of c.self.inside.own c.self.inside.out) c.args.ahead.now = subst (λ (t : Table). DifferWhere c.args.marks.now t c.args.ahead.now) (sym c.self.view_is) c.requires in
+    rw (c.part.ensures.out, c.take_over.ensures) (c.mark_all.ensures (shown_of c.self.inside.own c.self.inside.out) c.args.ahead.now c.self.invariant differ)
+
+pub returns : goal.returns
+unfolding shown_of
+returns g c = rw c.part.ensures.out c.take_over.ensures

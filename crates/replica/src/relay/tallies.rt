@@ -1,0 +1,251 @@
+//! Tallies that are handed out while they go on.
+
+ghost use Rattle.std.specs.Prelude.{◌≡◌, ◌≤◌, List, length, map, IfOk};
+ghost use Rattle.std.specs.Vec.{vec_capacity};
+ghost use Rattle.ball_model.specs.Figures.{TallyValue};
+ghost use Rattle.figures.specs.Values.{value_of};
+ghost use Rattle.replica.specs.Relay.{AreOwnAgain, CanBeRelayed, DifferAt, IsRelay, shown_of};
+ghost use Rattle.replica.specs.Tables.{AreStepped, CanBeStepped};
+
+use super::{Behind, Relay, Relayed, Shared, filled, mark_all};
+use crate::level::{self, Step};
+use crate::stepping::step_rows_by;
+use figures::Tally;
+use registers::{Rows, next_marked};
+use std::alloc::{AllocError, Global};
+use std::marker::Model;
+use std::sync::Arc;
+use std::thread::Threads;
+
+/// The figures of rows.
+#[derive(Drop)]
+pub struct Tallies {
+    items: Vec<Tally>,
+}
+
+impl Model for Tallies {
+    ghost use Rattle.std.specs.Prelude.{List, map};
+    ghost use Rattle.ball_model.specs.Figures.{TallyValue};
+    ghost use Rattle.figures.specs.Values.{value_of};
+
+    ghost Value = { List TallyValue };
+
+    ghost view = { λ t. map value_of t.items.items };
+}
+
+impl Tallies {
+    /// These figures.
+    pub fn of(items: Vec<Tally>) -> Tallies
+        ensures { result ≡ map value_of items.items }
+    {
+        Tallies { items }
+    }
+
+    /// The figures, one for each row.
+    #[inline]
+    pub fn items(&self) -> &[Tally]
+        ensures { map value_of result.now ≡ self.now }
+    {
+        self.items.as_slice()
+    }
+
+    // They become the figures of the rows ahead, and the rows become these.
+    fn step(&mut self, step: &Step<'_>, rows: &mut Relay<Rows>, weights: &mut [u64]) -> u128
+        requires { CanBeStepped step.now.estimator.now step.now.t rows.old step.now.ahead.now
+            step.now.marks.now weights.old self.old }
+        ensures { AreStepped step.now.estimator.now step.now.t step.now.ahead.now self.old
+            self.new weights.new result rows.new }
+    {
+        level::step_rows(step, rows, weights, &mut self.items)
+    }
+
+    // Does what `step` does, in several threads.
+    fn step_by<R: Threads + Sync>(
+        &mut self,
+        rt: &R,
+        step: &Step<'_>,
+        rows: &mut Relay<Rows>,
+        weights: &mut [u64],
+    ) -> u128
+        requires { CanBeStepped step.now.estimator.now step.now.t rows.old step.now.ahead.now
+            step.now.marks.now weights.old self.old }
+        ensures { AreStepped step.now.estimator.now step.now.t step.now.ahead.now self.old
+            self.new weights.new result rows.new }
+    {
+        step_rows_by(rt, step, rows, weights, &mut self.items)
+    }
+
+    // Each stale one becomes that of `ahead`, which are as many, and from which no other one differs.
+    fn follow(&mut self, ahead: &Tallies, stale: &[bool])
+        requires { DifferAt stale.now self.old ahead.now }
+        ensures { self.new ≡ ahead.now }
+    {
+        follow(&mut self.items, &ahead.items, stale);
+    }
+}
+
+impl Relayed for Tallies {
+    ghost use Rattle.std.specs.Prelude.{length};
+    ghost use Rattle.std.specs.Vec.{vec_capacity};
+    ghost use Rattle.replica.specs.Relay.{AreAsMany, DifferAt};
+    ghost use Rattle.replica.specs.RelayLaws.{tallies_alike, tallies_both, tallies_marked};
+    ghost use Rattle.replica.specs.RelayLaws.{tallies_room};
+
+    ghost count = { λ tallies. length tallies };
+
+    ghost are_alike = { AreAsMany };
+
+    ghost differ = { DifferAt };
+
+    ghost needs = { λ tallies. length tallies };
+
+    type Room = Vec<Tally>;
+
+    ghost size_of = { λ room. vec_capacity room };
+
+    fn places(&self) -> usize {
+        self.items.len()
+    }
+
+    fn empty(alloc: Global) -> Result<Tallies, AllocError> {
+        Ok(Tallies {
+            items: Vec::with_capacity(alloc, 0)?,
+        })
+    }
+
+    fn room(&self, alloc: Global, spare: Option<Vec<Tally>>) -> Result<Vec<Tally>, AllocError>
+        ensures { IfOk result (λ room. length self.now ≤ vec_capacity room) }
+    {
+        match spare {
+            Some(room) if self.items.len() <= room.capacity() => Ok(room),
+            _ => Vec::with_capacity(alloc, self.items.len()),
+        }
+    }
+
+    fn copy_in(&self, room: Vec<Tally>) -> Tallies {
+        let mut items = room;
+        items.clear();
+        let _ = items.extend_from_slice(&self.items);
+        Tallies { items }
+    }
+
+    fn copy_all(&mut self, other: &Tallies) {
+        self.items.copy_from_slice(&other.items);
+    }
+
+    ghost marked = { tallies_marked };
+
+    ghost alike = { tallies_alike };
+
+    ghost as_large = { tallies_room };
+
+    ghost both = { tallies_both };
+}
+
+impl Relay<Tallies> {
+    /// They become the figures of the rows ahead, and the rows become these, as [`level::step_rows`] steps them. It
+    /// takes no memory. If a table was handed out, those that changed since the one before it are copied too, and all
+    /// of them if somebody still holds that one.
+    pub fn step(&mut self, step: &Step<'_>, rows: &mut Relay<Rows>, weights: &mut [u64]) -> u128
+        requires { CanBeStepped step.now.estimator.now step.now.t rows.old step.now.ahead.now
+            step.now.marks.now weights.old self.old }
+        ensures { AreStepped step.now.estimator.now step.now.t step.now.ahead.now self.old
+            self.new weights.new result rows.new }
+    {
+        let out = self.out.take();
+        go_on(
+            &mut self.own,
+            out,
+            &mut self.behind,
+            &mut self.spare,
+            step.marks,
+        );
+        self.own.step(step, rows, weights)
+    }
+
+    /// They go on as they do in one thread, in several.
+    pub fn step_by<R: Threads + Sync>(
+        &mut self,
+        rt: &R,
+        step: &Step<'_>,
+        rows: &mut Relay<Rows>,
+        weights: &mut [u64],
+    ) -> u128
+        requires { CanBeStepped step.now.estimator.now step.now.t rows.old step.now.ahead.now
+            step.now.marks.now weights.old self.old }
+        ensures { AreStepped step.now.estimator.now step.now.t step.now.ahead.now self.old
+            self.new weights.new result rows.new }
+    {
+        let shown = self.out.take();
+        go_on(
+            &mut self.own,
+            shown,
+            &mut self.behind,
+            &mut self.spare,
+            step.marks,
+        );
+        self.own.step_by(rt, step, rows, weights)
+    }
+}
+
+// What is shown is in the own table, to be stepped where it is marked; what was handed out is what was shown before.
+fn go_on(
+    own: &mut Tallies,
+    out: Option<Shared<Tallies>>,
+    behind: &mut Option<Behind<Tallies>>,
+    spare: &mut Option<Vec<Tally>>,
+    marks: &[bool],
+)
+    requires { CanBeRelayed (shown_of own.old out) behind.old (length marks.now) }
+    ensures { AreOwnAgain (shown_of own.old out) marks.now own.new behind.new }
+{
+    match out {
+        None => mark_all(behind, marks),
+        Some(out) => {
+            let Shared {
+                table,
+                room,
+                marks: stale,
+            } = out;
+            bring_up(own, behind.take(), room, spare, &table);
+            let stale = filled(stale, marks);
+            *behind = Some(Behind { table, stale });
+        }
+    }
+}
+
+// The own table becomes what is shown: the table shown before is taken for that, if nobody else holds it, and otherwise
+// a copy in the room.
+fn bring_up(
+    own: &mut Tallies,
+    behind: Option<Behind<Tallies>>,
+    room: Vec<Tally>,
+    spare: &mut Option<Vec<Tally>>,
+    shown: &Tallies,
+)
+    requires behind { IsRelay DifferAt shown.now behind }
+    requires room { length shown.now ≤ vec_capacity room }
+    ensures { own.new ≡ shown.now }
+{
+    if let Some(Behind { table, stale }) = behind {
+        if let Ok(mut table) = Arc::try_unwrap(table) {
+            table.follow(shown, &stale);
+            *own = table;
+            *spare = Some(room);
+            return;
+        }
+    }
+    *own = shown.copy_in(room);
+}
+
+// Each stale tally becomes that of `ahead`, which are as many, and from which no other one differs.
+fn follow(tallies: &mut [Tally], ahead: &[Tally], stale: &[bool])
+    requires { DifferAt stale.now (map value_of tallies.old) (map value_of ahead.now) }
+    ensures { map value_of tallies.new ≡ map value_of ahead.now }
+{
+    let mut i = next_marked(stale, 0);
+    while i < stale.len() {
+        tallies[i] = ahead[i];
+        i = next_marked(stale, i + 1);
+    }
+}
