@@ -5,13 +5,13 @@ use Rattle.std.specs.Prelude.{if◌then◌else◌}
 use Rattle.std.specs.List.{filter}
 use Rattle.std.proofs.lemmas.List.{append-nil, append_assoc, length-append}
 use Rattle.csv.specs.Machine.{next_record}
-use Rattle.csv.specs.Reading.{Reached, Ready, ReadRecord, is_flexible, source_of, strip_bom}
+use Rattle.csv.specs.Reading.{Reached, Ready, ReadRecord, ReadsOn, is_flexible, source_of, strip_bom}
 use Rattle.csv.specs.declared.reader.Reader.{Reader}
 use Rattle.csv.specs.declared.parser.State.TheVariants as st
 use Rattle.csv.specs.declared.reader.Trim.TheVariants as trim
 use Rattle.csv.proofs.ReadFacts.{rows-end, rows-more}
 use Rattle.ball_model.specs.Input.{HasLfs, has_mark, records, without_mark}
-use Rattle.edgelist.specs.Records.{config, rows, is_blank, is_row, FindsNone, IsLeft}
+use Rattle.edgelist.specs.Records.{config, rows, is_blank, is_row, FindsNone, IsLeft, ReadsNone, ReadsOne}
 use Rattle.edgelist.specs.Reading.{byte_of}
 use Rattle.edgelist.specs.declared.read.Delimiter.{Delimiter}
 use Rattle.edgelist.specs.declared.read.Delimiter.TheVariants as delimiter
@@ -63,7 +63,7 @@ left-start rem d text rdr del plain trims ready configured flexible start source
     }
 
 -- no row more: the records so far are all
-pub left-end : {R : Type 0} (rem : R → Option (List ℕ)) (d : ℕ) (text : List ℕ) (past : List (List (List ℕ))) (a b : Reader R) (f : List (List ℕ)) →
+left-end : {R : Type 0} (rem : R → Option (List ℕ)) (d : ℕ) (text : List ℕ) (past : List (List (List ℕ))) (a b : Reader R) (f : List (List ℕ)) →
     IsLeft rem d text past a → ReadRecord rem a b false f → FindsNone rem d text past a b
 left-end rem d text past a b f at r =
     let none : next_record (config d) a.state [] [] at.left ≡ None = rows-end rem a b f (config d) at.left at.configured at.source r in
@@ -89,7 +89,7 @@ row-read rem d a b y f cfg source r =
     (z, from, rows-reached (config d) a.state y (f ∷ []) b.state z reached)
 
 -- a blank row: the records so far are all
-pub left-blank : {R : Type 0} (rem : R → Option (List ℕ)) (d : ℕ) (text : List ℕ) (past : List (List (List ℕ))) (a b : Reader R) (f : List (List ℕ)) →
+left-blank : {R : Type 0} (rem : R → Option (List ℕ)) (d : ℕ) (text : List ℕ) (past : List (List (List ℕ))) (a b : Reader R) (f : List (List ℕ)) →
     IsLeft rem d text past a → ReadRecord rem a b true f → is_blank f ≡ true → FindsNone rem d text past a b
 left-blank rem d text past a b f at r blank =
     let (z, source, row) = row-read rem d a b at.left f at.configured at.source r in
@@ -100,7 +100,7 @@ left-blank rem d text past a b f at r blank =
     }
 
 -- a record more
-pub left-more : {R : Type 0} (rem : R → Option (List ℕ)) (d : ℕ) (text : List ℕ) (past : List (List (List ℕ))) (a b : Reader R) (f : List (List ℕ)) →
+left-more : {R : Type 0} (rem : R → Option (List ℕ)) (d : ℕ) (text : List ℕ) (past : List (List (List ℕ))) (a b : Reader R) (f : List (List ℕ)) →
     IsLeft rem d text past a → ReadRecord rem a b true f → Ready b → b.flexible ≡ a.flexible → is_blank f ≡ false → IsLeft rem d text (past ++ f ∷ []) b
 left-more rem d text past a b f at r ready flexible row_is =
     let (z, source, row) = row-read rem d a b at.left f at.configured at.source r in
@@ -114,3 +114,15 @@ left-more rem d text past a b f at r ready flexible row_is =
       ends = (rw row at at.ends).1;
       all = at.all ∙ rw (row, row_is) (sym (append_assoc past (f ∷ []) (filter is_row (rows (config d) b.state [] [] z))));
     }
+
+-- a read that gives a row gives a record, if the row is not blank
+pub reads-one : {R : Type 0} (rem : R → Option (List ℕ)) (a b : Reader R) (f : List (List ℕ)) →
+    (a.trim ≡ trim.None → Ready a → ReadRecord rem a b true f) → ReadsOn a b → is_blank f ≡ false → ReadsOne rem a b f
+reads-one rem a b f read on row_is = λ d text past at.
+    left-more rem d text past a b f at (read at.trims at.ready) (on.4 at.ready).0 on.2 row_is
+
+-- a read that gives no row, or a blank one, gives no record
+pub reads-none : {R : Type 0} (rem : R → Option (List ℕ)) (a b : Reader R) (found : Bool) (f : List (List ℕ)) →
+    (a.trim ≡ trim.None → Ready a → ReadRecord rem a b found f) → (found ≡ true → is_blank f ≡ true) → ReadsNone rem a b
+reads-none rem a b true f read blank = λ d text past at. left-blank rem d text past a b f at (read at.trims at.ready) (blank refl)
+reads-none rem a b false f read blank = λ d text past at. left-end rem d text past a b f at (read at.trims at.ready)

@@ -18,7 +18,7 @@ ghost use Rattle.edgelist.specs.Counting.{SaysRefusal};
 use crate::index::Index;
 use crate::labels::Labels;
 use crate::read::Delimiter;
-use crate::records::{next_record, reader_of};
+use crate::records::{is_blank, reader_of};
 use csv::{ByteRecord, Reader};
 use std::alloc::{AllocError, Global};
 use std::io::Read;
@@ -108,8 +108,8 @@ fn next_row<R: Read + Drop>(
         ReadsNone R.remaining reader.old reader.new) }
     ensures failed { IfErr result (λ e. e ≡ Memory) }
 {
-    let more = next_record(reader, row)?;
-    Ok(more)
+    let more = reader.read_byte_record(row)?;
+    Ok(more && !is_blank(row))
 }
 
 // Marks the vertices that the records of a list name, which are fewer than `most`.

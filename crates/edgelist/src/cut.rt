@@ -1,6 +1,6 @@
 //! Records of some lines, cut into their fields.
 
-ghost use Rattle.std.specs.Prelude.{◌≡◌, ◌<◌, ◌++◌, ◌∷◌, [], ℕ, List, length, map, true, false};
+ghost use Rattle.std.specs.Prelude.{◌≡◌, ◌<◌, ◌++◌, ◌∷◌, [], ℕ, List, length, map};
 ghost use Rattle.std.specs.Prelude.{slice_index_or, IfSome, OnSome, option_copied};
 ghost use Rattle.std.specs.List.{All};
 ghost use Rattle.ball_model.specs.Input.{records};
@@ -206,23 +206,6 @@ impl Cut {
         put_record(&mut self.bytes, &mut self.records, row)
     }
 
-    // Puts the next record of a reader after the others, and tells whether there was one.
-    fn push_next<R: Read + Drop>(&mut self, reader: &mut Reader<R>, row: &mut Row) -> Option<bool>
-        ensures one { (d : ℕ) (text : List ℕ) → IsLeft R.remaining d text self.old reader.old →
-            IfSome result (λ more. more ≡ true → IsLeft R.remaining d text self.new reader.new) }
-        ensures end { (d : ℕ) (text : List ℕ) → IsLeft R.remaining d text self.old reader.old →
-            IfSome result (λ more. more ≡ false → self.new ≡ records d text) }
-    {
-        let Ok(more) = row.read(reader) else {
-            return None;
-        };
-        if !more {
-            return Some(false);
-        }
-        self.push(row)?;
-        Some(true)
-    }
-
     /// Puts all records that a reader has left after the others, if each has the form of one and there is room.
     pub(crate) fn push_all<R: Read + Drop>(
         &mut self,
@@ -233,9 +216,13 @@ impl Cut {
             OnSome result (self.new ≡ records d text) }
     {
         for _turn in 0..MOST_RECORDS {
-            if !self.push_next(reader, row)? {
+            let Ok(more) = row.read(reader) else {
+                return None;
+            };
+            if !more {
                 return Some(());
             }
+            self.push(row)?;
         }
         None
     }

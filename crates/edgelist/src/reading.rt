@@ -12,8 +12,7 @@ ghost use Rattle.edgelist.specs.Edges.{edge_of, graph_of_edges};
 ghost use Rattle.edgelist.specs.declared.read.EdgeError.TheVariants.{Memory};
 ghost use Rattle.edgelist.specs.Guessing.{IsWord};
 ghost use Rattle.edgelist.specs.Pieces.{AddsRecords, IsPartRead, IsThrough, ReadsOn};
-ghost use Rattle.edgelist.specs.Records.{FromStart, HasForm, ReadsNone, ReadsNoneAfter, ReadsOne};
-ghost use Rattle.edgelist.specs.Records.{ReadsOneAfter};
+ghost use Rattle.edgelist.specs.Records.{FromStart, HasForm, ReadsNoneAfter, ReadsOneAfter};
 ghost use Rattle.edgelist.specs.Reading.{AddsEdge, AddsRecord, AreWithin, EndsAtEnd, EndsAtFault};
 ghost use Rattle.edgelist.specs.Reading.{Exceeds, Refuses, Stops, has_label, limits_of, network_by};
 ghost use Rattle.edgelist.specs.Reading.{byte_of, with_label};
@@ -73,18 +72,6 @@ impl Drop for Reading {
     }
 }
 
-// Reads one record more, and tells whether there was one.
-fn next_row<R: Read + Drop>(reader: &mut Reader<R>, row: &mut Row) -> Result<bool, EdgeError>
-    ensures one { IfOk result (λ more. more ≡ true →
-        ReadsOne R.remaining reader.old reader.new row.new) }
-    ensures end { IfOk result (λ more. more ≡ false →
-        ReadsNone R.remaining reader.old reader.new) }
-    ensures failed { IfErr result (λ e. (says : Result Network Refusal) → Refuses says e) }
-{
-    let more = row.read(reader)?;
-    Ok(more)
-}
-
 // Reads records: at most `most` that have the form of one, and then one more, whatever its form. Tells how many of them
 // have it for certain, and whether one more was read. A row without that form is the last that is read.
 fn read_rows<R: Read + Drop>(
@@ -102,7 +89,7 @@ fn read_rows<R: Read + Drop>(
     ensures failed { IfErr result (λ e. (says : Result Network Refusal) → Refuses says e) }
 {
     for i in 0..most {
-        let more = next_row(reader, &mut rows[i])?;
+        let more = rows[i].read(reader)?;
         if !more {
             return Ok((i, false));
         }
@@ -110,7 +97,7 @@ fn read_rows<R: Read + Drop>(
             return Ok((i, true));
         }
     }
-    let more = next_row(reader, &mut rows[most])?;
+    let more = rows[most].read(reader)?;
     Ok((most, more))
 }
 
@@ -123,7 +110,7 @@ fn push_edge(edges: &mut Vec<Edge>, target: u32, source: u32) -> Result<(), Allo
 }
 
 // For how many edges there is to be room if there are so many.
-fn room_for(edges: usize) -> usize {
+fn capacity_for(edges: usize) -> usize {
     if edges <= FEW { edges } else { edges.max(MANY) }
 }
 
@@ -327,7 +314,7 @@ impl Reading {
         ensures edges { self.new.edges.items ≡ self.old.edges.items }
     {
         let len = self.edges.len();
-        if let Some(room) = room_for(len.saturating_add(count)).checked_next_power_of_two() {
+        if let Some(room) = capacity_for(len.saturating_add(count)).checked_next_power_of_two() {
             let _room = self.edges.reserve(room.saturating_sub(len));
         }
     }

@@ -1,8 +1,8 @@
 //! The records of a text, as `csv` reads them.
 
-ghost use Rattle.std.specs.Prelude.{◌≡◌, [], IfOk, true, false};
+ghost use Rattle.std.specs.Prelude.{◌≡◌, []};
 ghost use Rattle.csv.specs.Records.{fields_of};
-ghost use Rattle.edgelist.specs.Records.{is_blank, ForPlain, IsLeft, ReadsNone, ReadsOne};
+ghost use Rattle.edgelist.specs.Records.{is_blank, ForPlain, IsLeft};
 ghost use Rattle.edgelist.specs.Reading.{byte_of};
 
 use crate::read::Delimiter;
@@ -34,8 +34,8 @@ pub(crate) fn reader_of<R: Read + Drop>(alloc: Global, source: R, delimiter: Del
         .from_reader(alloc, source)
 }
 
-// Whether a row is one empty field: what is read of a comment at the end of a text that has no LF.
-fn is_blank(row: &ByteRecord) -> bool
+/// Whether a row is one empty field: what is read of a comment at the end of a text that has no LF.
+pub(crate) fn is_blank(row: &ByteRecord) -> bool
     ensures { result ≡ is_blank (fields_of row.now) }
 {
     if row.len() != 1 {
@@ -45,18 +45,4 @@ fn is_blank(row: &ByteRecord) -> bool
         Some(field) => field.is_empty(),
         None => false,
     }
-}
-
-/// Reads one record more, and tells whether there was one.
-pub(crate) fn next_record<R: Read + Drop>(
-    reader: &mut Reader<R>,
-    row: &mut ByteRecord,
-) -> Result<bool, csv::Error>
-    ensures one { IfOk result (λ more. more ≡ true →
-        ReadsOne R.remaining reader.old reader.new (fields_of row.new)) }
-    ensures end { IfOk result (λ more. more ≡ false →
-        ReadsNone R.remaining reader.old reader.new) }
-{
-    let more = reader.read_byte_record(row)?;
-    if more { Ok(!is_blank(row)) } else { Ok(false) }
 }

@@ -21,8 +21,8 @@ use crate::watch::Watch;
 use ball_model::CountedRead;
 use std::alloc::{AllocError, AllocGlobal, Global};
 use std::hash::RandomState;
-use std::thread;
 use std::thread::Threads;
+use std::{mem, thread};
 
 /// The bytes of a piece, at most.
 pub(crate) const PIECE: usize = 131_072;
@@ -60,20 +60,6 @@ fn add_pieces(
         n = pieces[i].add_to(alloc, reading, n, limits)?;
     }
     Ok(n)
-}
-
-// Cuts the records of pieces into fields, by so many threads.
-fn cut_pieces<R: Threads + Sync>(rt: &R, alloc: Global, pieces: &mut [Piece], threads: usize)
-    requires { 0 < threads }
-    ensures { (i : ℕ) (d : Piece) → i < length pieces.old →
-        IsSameText (slice_index_or pieces.old i d) (slice_index_or pieces.new i d) }
-{
-    thread::for_each_mut(
-        rt,
-        pieces,
-        threads,
-        &|_, piece: &mut Piece| piece.cut(alloc),
-    );
 }
 
 // How many records of some pieces were cut.
@@ -191,7 +177,14 @@ impl<'a, R: AllocGlobal + Threads + Sync, W: Watch> Rounds<'a, R, W> {
             requires { IsSync R.row × (0 < cutting) }
             ensures { (i : ℕ) (d : Piece) → i < length coming.entry.now → IsSameText
                 (slice_index_or coming.entry.now i d) (slice_index_or coming.exit.now i d) }
-        { cut_pieces(rt, alloc, coming, cutting) };
+        {
+            thread::for_each_mut(
+                rt,
+                coming,
+                cutting,
+                &|_, piece: &mut Piece| piece.cut(alloc),
+            );
+        };
         let mut add = || add_pieces(alloc, reading, pieces, number, limits);
         let (_, added) = thread::join_mut(rt, &mut cut, &mut add);
         added
@@ -206,8 +199,8 @@ impl<'a, R: AllocGlobal + Threads + Sync, W: Watch> Rounds<'a, R, W> {
         }
     }
 
-    // Fills and cuts pieces while the records of others are added. Tells how many records there are then, and what the
-    // last call of the reader gave.
+    // Fills pieces, and cuts them while the records of others are added. Tells how many records there are then, and what
+    // the last call of the reader gave.
     fn take_turn<S: CountedRead>(
         &self,
         reading: &mut Reading,
@@ -247,52 +240,8 @@ impl<'a, R: AllocGlobal + Threads + Sync, W: Watch> Rounds<'a, R, W> {
         Ok((n, gives))
     }
 
-    // Reads all records, and tells how many there are. Some pieces are filled while others are added, in turn.
+    // Reads all records, and tells how many there are. Some pieces are filled, and cut while others are added, in turn.
     fn read_rounds<S: CountedRead>(
-        &self,
-        reading: &mut Reading,
-        pieces: &mut [Piece],
-        coming: &mut [Piece],
-        reader: &mut S,
-        held: &mut Held,
-    ) -> Result<u64, EdgeError>
-        requires threads { 2 ≤ self.now.threads }
-        requires few { self.now.limits.edges ≤ most_records }
-        requires within { AreWithin self.now.limits.vertices 0
-            reading.old.labels reading.old.edges.items }
-        ensures within { IfOk result (λ n.
-            AreWithin self.now.limits.vertices self.now.limits.edges
-            reading.new.labels reading.new.edges.items) }
-        ensures ok { (text : List ℕ) →
-            AreOn (limits_of self.now.limits) (byte_of self.now.delimiter) text 0
-            reading.old.labels reading.old.edges.items pieces.old held.old.bytes.items
-            (S.remaining reader.old) → IfOk result (λ n.
-            IsThrough (limits_of self.now.limits) n (records (byte_of self.now.delimiter) text)
-            reading.new.labels reading.new.edges.items) }
-        ensures refused { (text : List ℕ) →
-            AreOn (limits_of self.now.limits) (byte_of self.now.delimiter) text 0
-            reading.old.labels reading.old.edges.items pieces.old held.old.bytes.items
-            (S.remaining reader.old) → IfErr result (Refuses (network_from
-            (limits_of self.now.limits) (records (byte_of self.now.delimiter) text))) }
-    {
-        let alloc = self.rt.alloc();
-        let mut number = 0;
-        for _turn in 0..u64::MAX {
-            let (n, gives) = self.take_turn(reading, number, pieces, coming, reader, held)?;
-            if gives == Gives::Nothing {
-                return add_pieces(alloc, reading, coming, n, self.limits);
-            }
-            let (n, gives) = self.take_turn(reading, n, coming, pieces, reader, held)?;
-            if gives == Gives::Nothing {
-                return add_pieces(alloc, reading, pieces, n, self.limits);
-            }
-            number = n;
-        }
-        Err(EdgeError::Memory)
-    }
-
-    // Reads all records, and tells how many there are.
-    fn read_source<S: CountedRead>(
         &self,
         state: RandomState,
         reader: &mut S,
@@ -314,28 +263,24 @@ impl<'a, R: AllocGlobal + Threads + Sync, W: Watch> Rounds<'a, R, W> {
         let mut coming = pieces_for(alloc, self.delimiter, count)?;
         let mut held = Held::new(alloc)?;
         let mut reading = Reading::new(alloc, state)?;
-        let number = self.read_rounds(&mut reading, &mut pieces, &mut coming, reader, &mut held)?;
-        Ok((reading, number))
-    }
-
-    // Reads all records, and makes their graph.
-    fn read_graph<S: CountedRead>(
-        &self,
-        state: RandomState,
-        reader: &mut S,
-    ) -> Result<EdgeList, EdgeError>
-        requires threads { 2 ≤ self.now.threads }
-        requires vertices { self.now.limits.vertices ≤ most_vertices }
-        requires edges { self.now.limits.edges ≤ most_records }
-        ensures ok { ForPlain (S.remaining reader.old) (λ text. IfOk result (λ list.
-            meaning_within self.now.limits self.now.delimiter text ≡ Ok list.graph)) }
-        ensures count { ForPlain (S.remaining reader.old) (λ text. IfOk result (λ list.
-            list.records ≡ length (records (byte_of self.now.delimiter) text))) }
-        ensures refused { ForPlain (S.remaining reader.old) (λ text. IfErr result
-            (Refuses (meaning_within self.now.limits self.now.delimiter text))) }
-    {
-        let (reading, number) = self.read_source(state, reader)?;
-        reading.into_list_by(self.rt, number, self.threads)
+        let mut number = 0;
+        for _turn in 0..u64::MAX {
+            let (n, gives) = self.take_turn(
+                &mut reading,
+                number,
+                &pieces,
+                &mut coming,
+                reader,
+                &mut held,
+            )?;
+            if gives == Gives::Nothing {
+                let n = add_pieces(alloc, &mut reading, &coming, n, self.limits)?;
+                return Ok((reading, n));
+            }
+            mem::swap(&mut pieces, &mut coming);
+            number = n;
+        }
+        Err(EdgeError::Memory)
     }
 
     /// Reads an edge list: while one thread adds the records of some pieces, in order, the others cut those of the next
@@ -365,7 +310,10 @@ impl<'a, R: AllocGlobal + Threads + Sync, W: Watch> Rounds<'a, R, W> {
             result ≡ Err EdgeError.Read }
     {
         let before = reader.failures();
-        let result = self.read_graph(state, reader);
+        let result = match self.read_rounds(state, reader) {
+            Ok((reading, number)) => reading.into_list_by(self.rt, number, self.threads),
+            Err(fault) => Err(fault),
+        };
         let failed = reader.failures() > before;
         read_answer(result, failed)
     }

@@ -9,7 +9,7 @@ ghost use Rattle.edgelist.specs.Reading.{fields_with};
 ghost use Rattle.edgelist.specs.Records.{ReadsNone, ReadsOne};
 
 use crate::numbering::LabelWord;
-use crate::records::next_record;
+use crate::records::is_blank;
 use csv::{ByteRecord, Reader};
 use std::alloc::{AllocError, Global};
 use std::io::Read;
@@ -114,12 +114,14 @@ impl Row {
         ensures end { IfOk result (λ more. more ≡ false →
             ReadsNone R.remaining reader.old reader.new) }
     {
-        let read = next_record(reader, &mut self.fields);
+        // A read that failed may have changed the fields too, so the words are set in any case.
+        let read = reader.read_byte_record(&mut self.fields);
         let (source, target, formed) = words_in(&self.fields);
         self.source = source;
         self.target = target;
         self.formed = formed;
-        read
+        let more = read?;
+        Ok(more && !is_blank(&self.fields))
     }
 
     /// The first field and the second, if it has the form of a record.

@@ -116,26 +116,6 @@ impl<'a, W: Watch> Sequential<'a, W> {
         self.read_records(alloc, state, &mut reader, &mut rows)
     }
 
-    // Reads all records, and makes their graph. It and what it calls are cut small for the checker.
-    fn read_graph<R: Read + Drop>(
-        &self,
-        alloc: Global,
-        state: RandomState,
-        reader: R,
-    ) -> Result<EdgeList, EdgeError>
-        requires vertices { self.now.limits.vertices ≤ most_vertices }
-        requires edges { self.now.limits.edges ≤ most_records }
-        ensures ok { ForPlain (R.remaining reader) (λ text. IfOk result (λ list.
-            meaning_within self.now.limits self.now.delimiter text ≡ Ok list.graph)) }
-        ensures count { ForPlain (R.remaining reader) (λ text. IfOk result (λ list.
-            list.records ≡ length (records (byte_of self.now.delimiter) text))) }
-        ensures refused { ForPlain (R.remaining reader) (λ text.
-            IfErr result (Refuses (meaning_within self.now.limits self.now.delimiter text))) }
-    {
-        let (reading, number) = self.read_source(alloc, state, reader)?;
-        reading.into_list(alloc, number)
-    }
-
     /// Reads an edge list. It answers `Read` if a call of the reader failed (while failures can be counted), and at no other
     /// time.
     pub(crate) fn read<R: CountedRead>(
@@ -161,7 +141,10 @@ impl<'a, W: Watch> Sequential<'a, W> {
         let counted = Counted {
             reader: &mut *reader,
         };
-        let result = self.read_graph(alloc, state, counted);
+        let result = match self.read_source(alloc, state, counted) {
+            Ok((reading, number)) => reading.into_list(alloc, number),
+            Err(fault) => Err(fault),
+        };
         let failed = reader.failures() > before;
         read_answer(result, failed)
     }

@@ -5,12 +5,12 @@ ghost use Rattle.std.specs.Prelude.{Option, ℕ};
 ghost use Rattle.std.specs.Io.KnownBytes.{Appends, Keeps};
 ghost use Rattle.clap.specs.Words.{kind_of};
 ghost use Rattle.hyperball.specs.Ends.{Does, Ends, EndsAccepted, EndsMistaken, EndsOfKind};
-ghost use Rattle.hyperball.specs.Ends.{EndsOrders, EndsRefused, FailsBy, FailsWish, LeavesFault};
+ghost use Rattle.hyperball.specs.Ends.{EndsOrders, EndsRefused, FailsBy, LeavesFault};
 ghost use Rattle.hyperball.specs.Ends.{LeavesRefused};
 ghost use Rattle.hyperball.specs.Progress.{Awaits, TellsAsAsked, TellsProgress};
 ghost use Rattle.hyperball.specs.Streams.{AppendsSome, KeptOrFailed, reads_of, writes_of};
 ghost use Rattle.hyperball.specs.Whole.{ReadsFew};
-ghost use Rattle.hyperball.specs.Wishes.{IsWish, ReadsAll, tells_progress};
+ghost use Rattle.hyperball.specs.Wishes.{IsWish, ReadsAll};
 ghost use Rattle.hyperball.specs.Words.{AsksProgress, FailsFor, HasFaults, texts_of};
 
 use crate::cli::gather::gather_by;
@@ -227,37 +227,6 @@ fn fulfil<
     }
 }
 
-// Does what words ask for, tells why if it is not done, and gives the exit status.
-fn serve_wish<
-    H: AllocGlobal + Clock + RandomSource + Threads + Wait + Sync,
-    R: CountedRead,
-    W: CountedWrite,
-    F: LendTeller,
->(rt: &H, wish: Wish, reader: &mut R, writer: &mut W, faults: &mut F) -> u8
-    ensures status { (result ≡ 0) ⊎ (result ≡ 1) }
-    ensures done { result ≡ 0 → Does wish
-        (reads_of R.remaining R.failed_calls R.sure_calls reader.old reader.new)
-        (writes_of W.contents W.failed_calls writer.old writer.new) }
-    ensures fault { result ≡ 1 → FailsWish wish
-        (reads_of R.remaining R.failed_calls R.sure_calls reader.old reader.new)
-        (writes_of W.contents W.failed_calls writer.old writer.new) }
-    ensures few { ReadsAll wish → ReadsFew (R.remaining reader.old) (R.remaining reader.new) }
-    ensures told { result ≡ 0 → TellsAsAsked (tells_progress wish ≡ false)
-        (F.contents faults.old) (F.contents faults.new) }
-{
-    let teller = teller_for(wish.tells_progress(), faults);
-    let server = Server {
-        rt,
-        teller: &teller,
-    };
-    let answer = fulfil(&server, wish, reader, writer);
-    end_telling(teller, faults);
-    match answer {
-        Ok(()) => DONE,
-        Err(fault) => tell_fault(faults, fault),
-    }
-}
-
 /// Does what the words of a command line say, and gives the exit status.
 ///
 /// 0: the report or the answers were written, or help or the version was asked for, whose text goes to the writer;
@@ -292,8 +261,19 @@ pub fn serve<
     ensures told { result ≡ 0 → TellsAsAsked (AsksProgress (texts_of words.now) false)
         (F.contents faults.old) (F.contents faults.new) }
 {
-    match read_words(rt.alloc(), words) {
-        Ok(wish) => serve_wish(rt, wish, reader, writer, faults),
-        Err(error) => tell_words(rt.alloc(), &error, writer, faults),
+    let wish = match read_words(rt.alloc(), words) {
+        Ok(wish) => wish,
+        Err(error) => return tell_words(rt.alloc(), &error, writer, faults),
+    };
+    let teller = teller_for(wish.tells_progress(), faults);
+    let server = Server {
+        rt,
+        teller: &teller,
+    };
+    let answer = fulfil(&server, wish, reader, writer);
+    end_telling(teller, faults);
+    match answer {
+        Ok(()) => DONE,
+        Err(fault) => tell_fault(faults, fault),
     }
 }

@@ -41,7 +41,7 @@ pub trait Relayed: Sized + Drop {
     /// A table without places.
     fn empty(alloc: Global) -> Result<Self, AllocError>;
 
-    /// Room for a copy: this room, if one fits it, or else new room.
+    /// Room for a copy: the spare room, if a copy fits into it, or else new room.
     fn room(&self, alloc: Global, spare: Option<Self::Room>) -> Result<Self::Room, AllocError>
         ensures { IfOk result (λ room. needs self.now ≤ size_of room) };
 
@@ -50,7 +50,7 @@ pub trait Relayed: Sized + Drop {
         requires { needs self.now ≤ size_of room }
         ensures { result ≡ self.now };
 
-    /// All places become those of `other`.
+    /// All places become those of `other`. It takes no memory.
     fn copy_all(&mut self, other: &Self)
         requires { are_alike self.old other.now }
         ensures { self.new ≡ other.now };
@@ -179,6 +179,23 @@ impl<T: Relayed> Relay<T> {
                 let Shared { room, .. } = out;
                 self.own = other.copy_in(room);
             }
+        }
+    }
+
+    /// Gives back what it has kept for going on: the table shown before, room that is left over, and, if nobody else holds
+    /// the table that was handed out, the room that was taken with it. The table stays as it is.
+    pub fn give_back(&mut self)
+        ensures { self.new ≡ self.old }
+    {
+        drop(self.behind.take());
+        drop(self.spare.take());
+        let out = self.out.take();
+        let Some(Shared { table, room, marks }) = out else {
+            return;
+        };
+        match Arc::try_unwrap(table) {
+            Ok(table) => self.own = table,
+            Err(table) => self.out = Some(Shared { table, room, marks }),
         }
     }
 

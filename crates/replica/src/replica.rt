@@ -41,7 +41,7 @@ impl Shown for Snapshot {
 /// Its memory is taken when it is made, or when its [`Targets`] and [`crate::FirstTables`] are: the index, two rows of
 /// 2^log2m bytes, a tally and the weight that its estimate is made of for each vertex, a slot for each source and each
 /// of three supersteps, and a sum for each superstep up to the limit. If the run is over, [`Replica::give_back`] gives
-/// back that of the index, and one of the two rows if they are equal.
+/// back that of the index, one of the two rows if they are equal, and what sharing the tables took.
 #[derive(Drop)]
 pub struct Replica {
     // what it has at its superstep: what it tells, and what a snapshot copies, with room to go on

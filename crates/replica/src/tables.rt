@@ -184,6 +184,14 @@ impl Tables {
         })
     }
 
+    /// Gives back what rows and figures have kept for going on. They stay as they are.
+    pub fn give_back(&mut self)
+        ensures { self.new ≡ self.old }
+    {
+        self.rows.give_back();
+        self.tallies.give_back();
+    }
+
     /// They become those of another one, within the room that was taken for sums.
     pub fn assign(&mut self, other: &Tables)
         requires { HasRoomFor other.now self.old }

@@ -134,17 +134,17 @@ collect_start items j o rest all done same none h =
     subst (λ (d : List State). CollectSoFar items j o rest d) (sym none)
     (subst (λ xs. CollectSoFar items j o xs []) (sym same) (record { count = (let e : 0 + length all ≡ j.plan.parts = omega (arith, h.count) in e); each = h.each; have = tt }))
 
-pub collect_more : {V : Type 0} (items : V → List (Result NodeEnd NodeError)) (j : Job) (o : RunOptions) (own : V) (rest : List V) (done then : List State) (r s : State) → CollectSoFar items j o (own ∷ rest) done →
-    Some r ≡ first_done (items own) → s ≡ r → then ≡ done ++ s ∷ [] → CollectSoFar items j o rest then
-collect_more items j o own rest done then r s h is same pushed =
-    let more : length (done ++ s ∷ []) ≡ length done + 1 = length-append done (s ∷ []) in
+pub collect_more : {V : Type 0} (items : V → List (Result NodeEnd NodeError)) (j : Job) (o : RunOptions) (own : V) (rest : List V) (done then : List State) (r : State) → CollectSoFar items j o (own ∷ rest) done →
+    Some r ≡ first_done (items own) → then ≡ done ++ r ∷ [] → CollectSoFar items j o rest then
+collect_more items j o own rest done then r h is pushed =
+    let more : length (done ++ r ∷ []) ≡ length done + 1 = length-append done (r ∷ []) in
     let one : IsDone j (length done) r = subst (λ (x : Option State). IfSome x (IsDone j (length done))) (sym is) (first_is_done j o (length done) 0 (items own) h.each.0.each) in
-    let last : IsDone j (0 + length done) s = subst (λ (n : ℕ). IsDone j n s) (let e : length done ≡ 0 + length done = omega arith in e) (subst (IsDone j (length done)) (sym same) one) in
+    let last : IsDone j (0 + length done) r = subst (λ (n : ℕ). IsDone j n r) (let e : length done ≡ 0 + length done = omega arith in e) one in
     subst (λ (d : List State). CollectSoFar items j o rest d) (sym pushed)
     (record {
       count = omega (arith, more, h.count);
       each = subst (λ (n : ℕ). EachAt (λ q w. IsPartEnd j o q (items w)) n rest) (sym more) h.each.1;
-      have = each_push (IsDone j) 0 done s h.have last;
+      have = each_push (IsDone j) 0 done r h.have last;
     })
 
 pub collect_end : {V : Type 0} (items : V → List (Result NodeEnd NodeError)) (j : Job) (o : RunOptions) (rest : List V) (done : List State) → rest ≡ [] → CollectSoFar items j o rest done → AreDone j done

@@ -1,32 +1,37 @@
 -- What a run's refusals say, step by step.
-use Rattle.std.proofs.Common.{◌≡◌, ◌≢◌, ◌∙◌, ℕ, List, ap, false, nat_lt, refl, subst, sym}
+use Rattle.std.proofs.Common.{◌≡◌, ◌≢◌, ◌∙◌, ℕ, List, ap, false, nat_lt, true, refl, subst, sym}
 use Rattle.std.specs.Prelude.{Option, None, Some, Result, Ok, Err, IfOk, IfErr, IsOk, OnOk, ◌||◌}
-use Rattle.std.specs.Io.KnownBytes.{Appends}
+use Rattle.std.specs.Io.KnownBytes.{Appends, Keeps}
+use Rattle.std.proofs.KnownBytes.{Keeps-refl}
 use Rattle.std.specs.Borrow.{Bor}
 use Rattle.ball_model.specs.Graph.{Graph}
 use Rattle.ball_model.specs.Input.{Network}
 use Rattle.ball_model.specs.PlanValue.{PlanValue, mixing_of, plan_within}
 use Rattle.ball_model.specs.Report.{report_of}
 use Rattle.ball_model.specs.RunText.{AreRead, HasPlan, IsReport, IsReportOf, Numbers, Settings, list_in, network_in, plan_asked, plan_over, run_limits}
+use Rattle.ball_model.specs.Streams.{Rises, RisesByOne}
 use Rattle.ball_model.specs.declared.plan.PlanError.{PlanError}
 use Rattle.ball_model.proofs.BoolLemmas.{by_cases}
 use Rattle.edgelist.specs.Job as edges
 use Rattle.edgelist.specs.Job.{numbers_asked, settings_of}
+use Rattle.edgelist.specs.Reading.{CountsOne}
 use Rattle.edgelist.specs.Records.{ForPlain}
 use Rattle.edgelist.specs.declared.counting.CountedError.TheVariants as counted
 use Rattle.edgelist.specs.declared.job.JobOptions.{JobOptions}
 use Rattle.edgelist.specs.declared.job.NetworkError.{NetworkError}
 use Rattle.edgelist.specs.declared.job.NetworkError.TheVariants as unread
 use Rattle.edgelist.specs.declared.read.EdgeError.{EdgeError}
+use Rattle.edgelist.specs.declared.read.EdgeError.TheVariants as edge
 use Rattle.workers.specs.declared.ends.JobError.{JobError}
 use Rattle.workers.specs.declared.ends.JobError.TheVariants as job
 use Rattle.workers.specs.declared.options.RunOptions.{RunOptions}
 use Rattle.workers.specs.declared.runs.RunError.{RunError}
 use Rattle.workers.specs.declared.runs.RunError.TheVariants as fault
+use Rattle.workers.specs.declared.runs.RunError.TheVariants.{Write}
 use Rattle.ball_model.specs.Job.{job_of}
-use Rattle.workers.specs.Job.{IsFirstFault}
+use Rattle.workers.specs.Job.{IsFaultOf, IsFirstFault}
 use Rattle.workers.specs.Options.{are_in_limits, run_job}
-use Rattle.workers.specs.Run.{AddsReport, AnswersNetwork, HasFirstFault, IsFaultIn, IsRunFault, IsRunRefusal, RefusesEdges, RefusesNetwork, TellsNone, TellsReport, WherePlain, job_fault, network_fault}
+use Rattle.workers.specs.Run.{AddsReport, HasFirstFault, IsFaultIn, IsRunFault, IsRunRefusal, RefusesEdges, WherePlain, job_fault, network_fault}
 
 -- what holds of plain bytes, and what follows from it
 pub where_weaker : (o : RunOptions) (told : Option (List ℕ)) (counted : Option (Bor (List ℕ))) (P Q : Settings → List ℕ → Option (List ℕ) → Type 0) → ((input : List ℕ) → P (settings_of (run_job o)) input (list_in counted) → Q (settings_of (run_job o)) input (list_in counted)) → WherePlain o told counted P → WherePlain o told counted Q
@@ -81,19 +86,28 @@ unfolding told_unread
 unread_back (unread.Edges e) = refl
 unread_back (unread.Counted e) = refl
 
-pub edges_back : {T U : Type 0} (e : NetworkError) (x : EdgeError) → ◌≡◌ {A = Result T RunError} (Err (network_fault e)) (Err (fault.Edges x)) → ◌≡◌ {A = Result U NetworkError} (Err e) (Err (unread.Edges x))
+pub edges_back : {T : Type 0} (e : NetworkError) (x : EdgeError) → network_fault e ≡ fault.Edges x → ◌≡◌ {A = Result T NetworkError} (Err e) (Err (unread.Edges x))
 unfolding told_unread
-edges_back e x is =
-    let same : network_fault e ≡ fault.Edges x = cc is in
-    ap Err (sym (unread_back e) ∙ ap told_unread same)
+edges_back e x is = ap Err (sym (unread_back e) ∙ ap told_unread is)
 
-pub edges_told : {T U : Type 0} (e : NetworkError) (x : EdgeError) → ◌≡◌ {A = Result U NetworkError} (Err e) (Err (unread.Edges x)) → ◌≡◌ {A = Result T RunError} (Err (network_fault e)) (Err (fault.Edges x))
+pub edges_told : {T : Type 0} (e : NetworkError) (x : EdgeError) → ◌≡◌ {A = Result T NetworkError} (Err e) (Err (unread.Edges x)) → network_fault e ≡ fault.Edges x
 edges_told e x is =
     let same : e ≡ unread.Edges x = cc is in
-    ap (λ (f : NetworkError). Err (network_fault f)) same
+    ap (λ (f : NetworkError). network_fault f) same
 
 -- what is refused over a network that was read
-pub refuses_network : (s : Settings) (input : List ℕ) (list : Option (List ℕ)) (network : Network) (e : RunError) → AreRead s input list network → RefusesNetwork s.numbers network e → IsRunRefusal s input list e
+abbrev RefusesNetwork : Numbers → Network → RunError → Type 0
+RefusesNetwork n network fault.Options = ⊥
+RefusesNetwork n network (fault.Edges e) = ⊥
+RefusesNetwork n network (fault.Counted e) = ⊥
+RefusesNetwork n network (fault.Plan e) = plan_asked n network.graph ≡ Err e
+RefusesNetwork n network (fault.PartitionLost p) = HasPlan n network
+RefusesNetwork n network fault.BookFull = HasPlan n network
+RefusesNetwork n network fault.Memory = HasPlan n network
+RefusesNetwork n network (fault.Starved node r q) = HasPlan n network
+RefusesNetwork n network fault.Write = ⊥
+
+refuses_network : (s : Settings) (input : List ℕ) (list : Option (List ℕ)) (network : Network) (e : RunError) → AreRead s input list network → RefusesNetwork s.numbers network e → IsRunRefusal s input list e
 refuses_network s input list network fault.Options read h = tt
 refuses_network s input list network (fault.Edges e) read h = absurd h
 refuses_network s input list network (fault.Counted e) read h = absurd h
@@ -116,10 +130,6 @@ later_edge s n input network fault.Memory h ok = ok
 later_edge s n input network (fault.Starved node r q) h ok = ok
 later_edge s n input network fault.Write h ok = ok
 
-pub later_edges : (s : Settings) (n : Numbers) (told : Option (List ℕ)) (network : Network) (r : Result (List ℕ) RunError) → AnswersNetwork n network r → ForPlain told (λ input. IsOk (network_in s input)) → ForPlain told (λ input. IfErr r (RefusesEdges s input))
-later_edges s n told network (Ok text) h ok input is plain = tt
-later_edges s n told network (Err e) h ok input is plain = later_edge s n input network e h (ok input is plain)
-
 pub listed_edges : {T : Type 0} (s : Settings) (told : Option (List ℕ)) (r : Result T RunError) → ForPlain told (λ input. IsOk (network_in s input)) → ForPlain told (λ input. OnOk r (IsOk (network_in s input)))
 listed_edges s told (Ok x) ok input is plain = ok input is plain
 listed_edges s told (Err e) ok input is plain = tt
@@ -128,10 +138,6 @@ listed_edges s told (Err e) ok input is plain = tt
 pub unwritten_edges : {T : Type 0} (s : Settings) (told : Option (List ℕ)) (r : Result T RunError) → ForPlain told (λ input. IsOk (network_in s input)) → IfErr r (λ e. e ≡ fault.Write) → ForPlain told (λ input. IfErr r (RefusesEdges s input))
 unwritten_edges s told (Ok x) ok h input is plain = tt
 unwritten_edges s told (Err e) ok h input is plain = subst (RefusesEdges s input) (sym h) (ok input is plain)
-
-pub never_write : (n : Numbers) (network : Network) (r : Result (List ℕ) RunError) → AnswersNetwork n network r → IfErr r (λ e. e ≡ fault.Write → ⊥)
-never_write n network (Ok text) h = tt
-never_write n network (Err e) h = λ is. subst (λ (x : RunError). RefusesNetwork n network x) is h
 
 -- the text of a report that is written, and what is said where it is not
 pub wrote : {T W : Type 0} (o : RunOptions) (told : Option (List ℕ)) (counted : Option (Bor (List ℕ))) (contents : W → Option (List ℕ)) (old new : W) (text : List ℕ) (r : Result T RunError) → WherePlain o told counted (λ s input list. IsReport s input list text) → OnOk r (Appends (contents old) (contents new) text) → OnOk r (WherePlain o told counted (AddsReport contents old new))
@@ -155,7 +161,7 @@ pub planned : (n : Numbers) (g : Graph) (q : PlanValue) → ◌≡◌ {A = Resul
 planned n g q is = sym is ∙ (rw (← is) at (plan_or_fault (run_limits n.large).vertices (plan_over n g)))
 
 -- a fault of the nodes, where there is a plan
-pub refuses_job : (n : Numbers) (network : Network) (e : JobError) → HasPlan n network → RefusesNetwork n network (job_fault e)
+refuses_job : (n : Numbers) (network : Network) (e : JobError) → HasPlan n network → RefusesNetwork n network (job_fault e)
 refuses_job n network (job.PartitionLost p) h = h
 refuses_job n network job.BookFull h = h
 refuses_job n network job.Memory h = h
@@ -189,33 +195,14 @@ told_back job.BookFull = refl
 told_back job.Memory = refl
 told_back (job.Starved node s q) = refl
 
-same_error : {T : Type 0} (e d : RunError) → ◌≡◌ {A = Result T RunError} (Err e) (Err d) → e ≡ d
-same_error e d is = cc
-
 none_told : (e : RunError) (f : JobError) → told_fault e ≡ job.Memory → f ≢ job.Memory → e ≡ job_fault f → ⊥
 none_told e f none other is = other (sym (told_back f) ∙ (ap told_fault (sym is) ∙ none))
 
-pub plan_first : {T : Type 0} (W : JobError → Type 0) (x : PlanError) (f : JobError) → f ≢ job.Memory → ◌≡◌ {A = Result T RunError} (Err (fault.Plan x)) (Err (job_fault f)) → W f
-unfolding told_fault
-plan_first W x f other is = absurd (none_told (fault.Plan x) f refl other (same_error (fault.Plan x) (job_fault f) is))
-
-pub memory_first : {T : Type 0} (W : JobError → Type 0) (f : JobError) → f ≢ job.Memory → ◌≡◌ {A = Result T RunError} (Err fault.Memory) (Err (job_fault f)) → W f
-unfolding told_fault
-memory_first W f other is = absurd (none_told fault.Memory f refl other (same_error fault.Memory (job_fault f) is))
-
-pub write_first : {T : Type 0} (W : JobError → Type 0) (r : Result T RunError) → IfErr r (λ e. e ≡ fault.Write) → (f : JobError) → f ≢ job.Memory → r ≡ Err (job_fault f) → W f
-unfolding told_fault
-write_first W (Ok x) kind f other is = absurd (cc)
-write_first W (Err e) kind f other is = absurd (none_told fault.Write f refl other (sym kind ∙ same_error e (job_fault f) is))
-
-pub ok_first : {T : Type 0} (W : JobError → Type 0) (x : T) (f : JobError) → f ≢ job.Memory → ◌≡◌ {A = Result T RunError} (Ok x) (Err (job_fault f)) → W f
-ok_first W x f other is = absurd (cc)
-
 -- of a network that was read
-pub job_first : {T : Type 0} (o : RunOptions) (network : Network) (plan : PlanValue) (e : JobError) → plan_asked (numbers_asked (run_job o)) network.graph ≡ Ok plan → (e ≢ job.Memory → IsFirstFault (job_of network.graph plan) o e) →
-    (f : JobError) → f ≢ job.Memory → ◌≡◌ {A = Result T RunError} (Err (job_fault e)) (Err (job_fault f)) → HasFirstFault o network f
+job_first : (o : RunOptions) (network : Network) (plan : PlanValue) (e : JobError) → plan_asked (numbers_asked (run_job o)) network.graph ≡ Ok plan → (e ≢ job.Memory → IsFirstFault (job_of network.graph plan) o e) →
+    (f : JobError) → f ≢ job.Memory → job_fault e ≡ job_fault f → HasFirstFault o network f
 job_first o network plan e asked first f other is =
-    let same : e ≡ f = sym (told_back e) ∙ (ap told_fault (same_error (job_fault e) (job_fault f) is) ∙ told_back f) in
+    let same : e ≡ f = sym (told_back e) ∙ (ap told_fault is ∙ told_back f) in
     record { plan = plan; planned = asked; first = subst (IsFirstFault (job_of network.graph plan) o) same (first (λ m. other (sym same ∙ m))) }
 
 -- where the network is not read
@@ -224,23 +211,21 @@ unfolding told_fault
 unread_told (unread.Edges e) = refl
 unread_told (unread.Counted e) = refl
 
-pub network_first : (o : RunOptions) (told : Option (List ℕ)) (counted : Option (Bor (List ℕ))) (network : Network) (f : JobError) → WherePlain o told counted (λ s input list. AreRead s input list network) → HasFirstFault o network f →
+network_first : (o : RunOptions) (told : Option (List ℕ)) (counted : Option (Bor (List ℕ))) (network : Network) (f : JobError) → WherePlain o told counted (λ s input list. AreRead s input list network) → HasFirstFault o network f →
     WherePlain o told counted (λ s input list. IsRunFault o s input list f)
 network_first o told counted network f read first =
     where_weaker o told counted (λ s input list. AreRead s input list network) (λ s input list. IsRunFault o s input list f)
     (λ input h. record { network = network; read = h; first = first }) read
 
--- ---- what a run tells
--- the options are out of their limits
-pub outside_told : (o : RunOptions) (told : Option (List ℕ)) (counted : Option (Bor (List ℕ))) → are_in_limits o ≡ false → TellsNone o told counted fault.Options
-unfolding told_fault
-outside_told o told counted outside = record {
-  input = where_always o told counted (λ s input list. IsRunRefusal s input list fault.Options) (λ s input list. tt);
-  edges = λ input is plain. tt;
-  options = outside;
-  unwritten = λ is. absurd (cc);
-  first = λ f other is. absurd (none_told fault.Options f refl other is);
-}
+-- ---- what a run tells that ends before it writes
+-- what the error says of the input, of the edge list whatever the other list is, and of the options; and a fault of the
+-- nodes is the first of their ends
+pub record TellsNone (o : RunOptions) (told : Option (List ℕ)) (counted : Option (Bor (List ℕ))) (e : RunError) : Type 0 where
+  pub input : WherePlain o told counted (λ s input list. IsRunRefusal s input list e)
+  pub edges : ForPlain told (λ input. RefusesEdges (settings_of (run_job o)) input e)
+  pub options : IsFaultIn o e
+  pub unwritten : e ≢ fault.Write
+  pub first : (f : JobError) → f ≢ job.Memory → e ≡ job_fault f → WherePlain o told counted (λ s input list. IsRunFault o s input list f)
 
 -- the network is not read
 pub unread_by : (o : RunOptions) (asked : JobOptions) (told : Option (List ℕ)) (counted : Option (Bor (List ℕ))) (e : NetworkError) → asked ≡ run_job o → edges.WherePlain told counted (λ input list. edges.RefusesRead (settings_of asked) input list e) → ForPlain told (λ input. edges.RefusesEdges (settings_of asked) input e) → TellsNone o told counted (network_fault e)
@@ -255,25 +240,97 @@ unread_by o asked told counted e is refuses of_edges = record {
   first = λ f other same. absurd (none_told (network_fault e) f (unread_told e) other same);
 }
 
--- the network is read, and answered
-pub told_report : (o : RunOptions) (told : Option (List ℕ)) (counted : Option (Bor (List ℕ))) (network : Network) (r : Result (List ℕ) RunError) → AnswersNetwork (numbers_asked (run_job o)) network r → WherePlain o told counted (λ s input list. AreRead s input list network) → ForPlain told (λ input. IsOk (network_in (settings_of (run_job o)) input)) → IfOk r (TellsReport o told counted)
-told_report o told counted network (Err e) answer read ok = tt
-told_report o told counted network (Ok text) answer read ok = record {
-  report =
-      where_weaker o told counted (λ s input list. AreRead s input list network) (λ s input list. IsReport s input list text)
-      (λ input h. record { network = network; read = h; report = answer }) read;
-  edges = ok;
+-- the network is read
+pub record IsRead (o : RunOptions) (told : Option (List ℕ)) (counted : Option (Bor (List ℕ))) (network : Network) : Type 0 where
+  pub all : WherePlain o told counted (λ s input list. AreRead s input list network)
+  pub edges : ForPlain told (λ input. IsOk (network_in (settings_of (run_job o)) input))
+
+pub read_by : (o : RunOptions) (asked : JobOptions) (told : Option (List ℕ)) (counted : Option (Bor (List ℕ))) (network : Network) → asked ≡ run_job o → edges.WherePlain told counted (λ input list. AreRead (settings_of asked) input list network) → ForPlain told (λ input. IsOk (network_in (settings_of asked) input)) → IsRead o told counted network
+read_by o asked told counted network is read ok = record {
+  all = where_job o asked told counted (λ s input list. AreRead s input list network) is read;
+  edges = plain_job o asked told (λ s input. IsOk (network_in s input)) is ok;
 }
 
-pub told_none : (o : RunOptions) (told : Option (List ℕ)) (counted : Option (Bor (List ℕ))) (network : Network) (r : Result (List ℕ) RunError) → AnswersNetwork (numbers_asked (run_job o)) network r → IfErr r (IsFaultIn o) → ((f : JobError) → f ≢ job.Memory → r ≡ Err (job_fault f) → HasFirstFault o network f) → WherePlain o told counted (λ s input list. AreRead s input list network) →
-    ForPlain told (λ input. IsOk (network_in (settings_of (run_job o)) input)) → IfErr r (TellsNone o told counted)
-told_none o told counted network (Ok text) answer options first read ok = tt
-told_none o told counted network (Err e) answer options first read ok = record {
+-- and the text is its report
+pub reported : (o : RunOptions) (told : Option (List ℕ)) (counted : Option (Bor (List ℕ))) (network : Network) (text : List ℕ) → IsRead o told counted network → IsReportOf (numbers_asked (run_job o)) network text → WherePlain o told counted (λ s input list. IsReport s input list text)
+reported o told counted network text read report =
+    where_weaker o told counted (λ s input list. AreRead s input list network) (λ s input list. IsReport s input list text)
+    (λ input h. record { network = network; read = h; report = report }) read.all
+
+-- and there is no report for this reason
+told_none : (o : RunOptions) (told : Option (List ℕ)) (counted : Option (Bor (List ℕ))) (network : Network) (e : RunError) → IsRead o told counted network → RefusesNetwork (numbers_asked (run_job o)) network e → IsFaultIn o e → ((f : JobError) → f ≢ job.Memory → e ≡ job_fault f → HasFirstFault o network f) → TellsNone o told counted e
+told_none o told counted network e read refuses options first = record {
   input =
       where_weaker o told counted (λ s input list. AreRead s input list network) (λ s input list. IsRunRefusal s input list e)
-      (λ input h. refuses_network (settings_of (run_job o)) input (list_in counted) network e h answer) read;
-  edges = λ input known plain. later_edge (settings_of (run_job o)) (numbers_asked (run_job o)) input network e answer (ok input known plain);
+      (λ input h. refuses_network (settings_of (run_job o)) input (list_in counted) network e h refuses) read.all;
+  edges = λ input known plain. later_edge (settings_of (run_job o)) (numbers_asked (run_job o)) input network e refuses (read.edges input known plain);
   options = options;
-  unwritten = λ is. subst (λ (x : RunError). RefusesNetwork (numbers_asked (run_job o)) network x) is answer;
-  first = λ f other is. network_first o told counted network f read (first f other (ap Err is));
+  unwritten = λ is. subst (λ (x : RunError). RefusesNetwork (numbers_asked (run_job o)) network x) is refuses;
+  first = λ f other is. network_first o told counted network f read.all (first f other is);
+}
+
+-- there is no such plan over it
+pub none_planned : (o : RunOptions) (told : Option (List ℕ)) (counted : Option (Bor (List ℕ))) (network : Network) (e : PlanError) → IsRead o told counted network → plan_asked (numbers_asked (run_job o)) network.graph ≡ Err e → TellsNone o told counted (fault.Plan e)
+unfolding told_fault
+none_planned o told counted network e read is = told_none o told counted network (fault.Plan e) read is tt (λ f other same. absurd (none_told (fault.Plan e) f refl other same))
+
+-- there is one, and memory is refused
+pub none_held : (o : RunOptions) (told : Option (List ℕ)) (counted : Option (Bor (List ℕ))) (network : Network) → IsRead o told counted network → HasPlan (numbers_asked (run_job o)) network → TellsNone o told counted fault.Memory
+unfolding told_fault
+none_held o told counted network read planned = told_none o told counted network fault.Memory read planned tt (λ f other same. absurd (none_told fault.Memory f refl other same))
+
+-- and the nodes have a fault
+job_options : (o : RunOptions) (e : JobError) → IsFaultOf o.parts o e → IsFaultIn o (job_fault e)
+job_options o (job.PartitionLost p) h = h
+job_options o job.BookFull h = h
+job_options o job.Memory h = tt
+job_options o (job.Starved node s q) h = h
+
+pub none_done : (o : RunOptions) (told : Option (List ℕ)) (counted : Option (Bor (List ℕ))) (network : Network) (plan : PlanValue) (e : JobError) → IsRead o told counted network → ◌≡◌ {A = Result PlanValue PlanError} (Ok plan) (plan_asked (numbers_asked (run_job o)) network.graph) → IsFaultOf o.parts o e → (e ≢ job.Memory → IsFirstFault (job_of network.graph plan) o e) → TellsNone o told counted (job_fault e)
+none_done o told counted network plan e read asked options first =
+    told_none o told counted network (job_fault e) read (refuses_job (numbers_asked (run_job o)) network e (planned (numbers_asked (run_job o)) network.graph plan asked)) (job_options o e options)
+    (job_first o network plan e (sym asked) first)
+
+-- no fault of the nodes is one of the edge list
+pub unread_edges : (e : JobError) (x : EdgeError) → job_fault e ≢ fault.Edges x
+unread_edges (job.PartitionLost p) x is = absurd (cc)
+unread_edges job.BookFull x is = absurd (cc)
+unread_edges job.Memory x is = absurd (cc)
+unread_edges (job.Starved node s q) x is = absurd (cc)
+
+-- the clauses of such a run, by how many calls of the reader failed before and after
+abbrev pub EndsUnwritten : {T W : Type 0} → RunOptions → Option (List ℕ) → Option (Bor (List ℕ)) → ℕ → ℕ → (W → Option (List ℕ)) → (W → ℕ) → W → Result T RunError → Type 0
+EndsUnwritten o told counted before after contents failed_calls writer r = record {
+  ok : OnOk r (WherePlain o told counted (AddsReport contents writer writer));
+  refused : WherePlain o told counted (λ s input list. IfErr r (IsRunRefusal s input list));
+  edges : ForPlain told (λ input. OnOk r (IsOk (network_in (settings_of (run_job o)) input)));
+  of_edges : ForPlain told (λ input. IfErr r (RefusesEdges (settings_of (run_job o)) input));
+  read : r ≡ Err (fault.Edges edge.Read) → Rises before after;
+  failed : CountsOne before after → r ≡ Err (fault.Edges edge.Read);
+  write : r ≡ Err fault.Write → RisesByOne (failed_calls writer) (failed_calls writer);
+  written : r ≢ Err fault.Write → failed_calls writer ≡ failed_calls writer;
+  limits : are_in_limits o ≡ false → r ≡ Err fault.Options;
+  fault : IfErr r (IsFaultIn o);
+  first : (f : JobError) → f ≢ job.Memory → r ≡ Err (job_fault f) → WherePlain o told counted (λ s input list. IsRunFault o s input list f);
+  untouched : IfErr r (λ e. e ≢ Write → Keeps (contents writer) (contents writer));
+}
+
+same_error : {T : Type 0} (e d : RunError) → ◌≡◌ {A = Result T RunError} (Err e) (Err d) → e ≡ d
+same_error e d is = cc
+
+pub ends_unwritten : {T W : Type 0} (o : RunOptions) (told : Option (List ℕ)) (counted : Option (Bor (List ℕ))) (before after : ℕ) (contents : W → Option (List ℕ)) (failed_calls : W → ℕ) (writer : W) (e : RunError) → TellsNone o told counted e → are_in_limits o ≡ true →
+    (e ≡ fault.Edges edge.Read → Rises before after) → (CountsOne before after → e ≡ fault.Edges edge.Read) → EndsUnwritten {T = T} o told counted before after contents failed_calls writer (Err e)
+ends_unwritten o told counted before after contents failed_calls writer e none within read failed = record {
+  ok = tt;
+  refused = none.input;
+  edges = λ input known plain. tt;
+  of_edges = none.edges;
+  read = λ is. read (same_error e (fault.Edges edge.Read) is);
+  failed = λ rises. ap Err (failed rises);
+  write = λ is. absurd (none.unwritten (same_error e fault.Write is));
+  written = λ _. refl;
+  limits = λ outside. absurd (cc);
+  fault = none.options;
+  first = λ f other is. none.first f other (same_error e (job_fault f) is);
+  untouched = λ _. Keeps-refl (contents writer);
 }

@@ -1,17 +1,14 @@
 -- A run: what is asked of it, and what its refusals say of the input.
-use Rattle.std.specs.Prelude.{◌≡◌, ◌≢◌, ⊤, ℕ, false, List, Option, Result, Ok, Err, IfSome, IsOk}
-use Rattle.std.specs.Prelude.{MatchResult}
+use Rattle.std.specs.Prelude.{◌≡◌, ⊤, ℕ, false, List, Option, Ok, IfSome, IsOk}
 use Rattle.std.specs.Borrow.{Bor}
 use Rattle.ball_model.specs.Input.{Network}
 use Rattle.ball_model.specs.Job.{job_of}
 use Rattle.ball_model.specs.PlanValue.{PlanValue}
-use Rattle.ball_model.specs.RunText.{AppendsReport, ArePlain, AreRead, HasPlan, IsPlanFault, IsReport}
-use Rattle.ball_model.specs.RunText.{IsReportOf}
-use Rattle.ball_model.specs.RunText.{Numbers, Settings, list_in, network_in, plan_asked}
+use Rattle.ball_model.specs.RunText.{AppendsReport, ArePlain, AreRead, HasPlan, IsPlanFault}
+use Rattle.ball_model.specs.RunText.{Settings, list_in, network_in, plan_asked}
 use Rattle.edgelist.specs.Reading.{Refuses}
 use Rattle.edgelist.specs.Counting.{IsListRefusal}
 use Rattle.edgelist.specs.Job.{numbers_asked, settings_of}
-use Rattle.edgelist.specs.Records.{ForPlain}
 use Rattle.edgelist.specs.declared.job.NetworkError.{NetworkError}
 use Rattle.edgelist.specs.declared.job.NetworkError.TheVariants as unread
 use Rattle.workers.specs.declared.ends.JobError.{JobError}
@@ -99,38 +96,3 @@ RefusesEdges s input fault.BookFull = IsOk (network_in s input)
 RefusesEdges s input fault.Memory = IsOk (network_in s input)
 RefusesEdges s input (fault.Starved node r q) = IsOk (network_in s input)
 RefusesEdges s input fault.Write = IsOk (network_in s input)
-
--- what a refusal says of a network that was read
-abbrev pub RefusesNetwork : Numbers → Network → RunError → Type 0
-RefusesNetwork n network fault.Options = ⊥
-RefusesNetwork n network (fault.Edges e) = ⊥
-RefusesNetwork n network (fault.Counted e) = ⊥
-RefusesNetwork n network (fault.Plan e) = plan_asked n network.graph ≡ Err e
-RefusesNetwork n network (fault.PartitionLost p) = HasPlan n network
-RefusesNetwork n network fault.BookFull = HasPlan n network
-RefusesNetwork n network fault.Memory = HasPlan n network
-RefusesNetwork n network (fault.Starved node r q) = HasPlan n network
-RefusesNetwork n network fault.Write = ⊥
-
--- the report of a network, or why there is none
-abbrev pub AnswersNetwork : Numbers → Network → Result (List ℕ) RunError → Type 0
-AnswersNetwork n network result =
-    MatchResult result (IsReportOf n network) (RefusesNetwork n network)
-
--- ---- a run of what is read
--- the text is the report of the input, and the edge list is one
-pub record TellsReport (o : RunOptions) (told : Option (List ℕ)) (counted : Option (Bor (List ℕ)))
-    (text : List ℕ) : Type 0 where
-  pub report : WherePlain o told counted (λ s input list. IsReport s input list text)
-  pub edges : ForPlain told (λ input. IsOk (network_in (settings_of (run_job o)) input))
-
--- there is no report for this reason: what it says of the input, of the edge list whatever the other list is, and of the
--- options; nothing was to be written; and a fault of the nodes is the first of their ends
-pub record TellsNone (o : RunOptions) (told : Option (List ℕ)) (counted : Option (Bor (List ℕ)))
-    (e : RunError) : Type 0 where
-  pub input : WherePlain o told counted (λ s input list. IsRunRefusal s input list e)
-  pub edges : ForPlain told (λ input. RefusesEdges (settings_of (run_job o)) input e)
-  pub options : IsFaultIn o e
-  pub unwritten : e ≢ fault.Write
-  pub first : (f : JobError) → f ≢ job.Memory → e ≡ job_fault f →
-      WherePlain o told counted (λ s input list. IsRunFault o s input list f)

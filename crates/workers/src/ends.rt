@@ -234,10 +234,9 @@ fn collect_done(alloc: Global, ends: Vec<Vec<NodeResult>>) -> Result<Vec<Replica
 {
     let mut replicas = Vec::with_capacity(alloc, ends.len())?;
     for own in ends {
-        let Some(mut replica) = done_replica(own) else {
+        let Some(replica) = done_replica(own) else {
             unreachable!()
         };
-        replica.give_back();
         replicas.push(replica)?;
     }
     Ok(replicas)

@@ -1,21 +1,20 @@
 //! Runs, each from bytes to bytes: a thread for each node, and more of them in large supersteps and for the figures.
 
-ghost use Rattle.std.specs.Prelude.{◌≡◌, ◌≢◌, Err, true, false, OnOk, OnErr, IfOk, IfErr, IsOk};
+ghost use Rattle.std.specs.Prelude.{◌≡◌, ◌≢◌, Err, false, OnOk, OnErr, IfOk, IfErr, IsOk};
 ghost use Rattle.std.specs.Io.KnownBytes.{Appends, Keeps};
 ghost use Rattle.ball_model.specs.Job.{IsJob, job_of};
 ghost use Rattle.ball_model.specs.PlanValue.{mixing_of};
 ghost use Rattle.ball_model.specs.Report.{report_of};
 ghost use Rattle.ball_model.specs.RunText.{network_in};
 ghost use Rattle.ball_model.specs.Streams.{Rises, RisesByOne};
-ghost use Rattle.edgelist.specs.Job.{numbers_asked, settings_of};
+ghost use Rattle.edgelist.specs.Job.{settings_of};
 ghost use Rattle.edgelist.specs.Reading.{CountsOne};
 ghost use Rattle.edgelist.specs.Records.{ForPlain};
 ghost use Rattle.workers.specs.declared.ends.JobError.{JobError as NodesFault};
 ghost use Rattle.workers.specs.Job.{AreDone};
 ghost use Rattle.workers.specs.Options.{are_in_limits, run_job};
-ghost use Rattle.workers.specs.Run.{AddsReport, AnswersNetwork, HasFirstFault, IsFaultIn};
-ghost use Rattle.workers.specs.Run.{IsRunFault, IsRunRefusal, RefusesEdges, TellsNone, TellsReport};
-ghost use Rattle.workers.specs.Run.{WherePlain, job_fault};
+ghost use Rattle.workers.specs.Run.{AddsReport, IsFaultIn, IsRunFault, IsRunRefusal};
+ghost use Rattle.workers.specs.Run.{RefusesEdges, WherePlain, job_fault};
 
 use crate::ends::JobError;
 use crate::gate::{Gate, UnwatchedGate};
@@ -127,80 +126,34 @@ impl From<JobError> for RunError {
     }
 }
 
+// Replicas of a run that is over give back what they need no more. Its board, which held tables of theirs, is gone.
+fn give_back(replicas: &mut [Replica])
+    ensures { replicas.new ≡ replicas.old }
+{
+    for i in 0..replicas.len() {
+        replicas[i].give_back();
+    }
+}
+
 // The text of the report of replicas at the end of their run, by at most so many threads; by all processors if 0 are
 // asked for. The error is that memory was refused.
 fn replicas_text<T: AllocGlobal + Threads + Sync>(
     rt: &T,
     graph: &Graph,
     plan: &Plan,
-    replicas: &[Replica],
+    mut replicas: Vec<Replica>,
     threads: usize,
 ) -> Result<Pages, AllocError>
     requires job { IsJob (job_of graph.now.graph plan.now) }
-    requires done { AreDone (job_of graph.now.graph plan.now) replicas.now }
+    requires done { AreDone (job_of graph.now.graph plan.now) replicas.items }
     ensures { IfOk result (λ text. text ≡
         report_of (mixing_of plan.now) graph.now.graph graph.now.labels plan.now.limit) }
 {
+    give_back(&mut replicas);
     let mut text = CountingWriter::new(Pages::new(rt.alloc()));
-    match write_report_by(rt, &mut text, graph, replicas, threads) {
+    match write_report_by(rt, &mut text, graph, &replicas, threads) {
         Ok(()) => Ok(text.into_inner()),
         Err(_) => Err(AllocError),
-    }
-}
-
-// A run that is watched: what is asked of it, and what its calls work with.
-#[derive(Clone, Copy)]
-struct WatchedRun<'a, T, G> {
-    rt: &'a T,
-    options: &'a RunOptions,
-    gate: &'a G,
-}
-
-impl<'a, T: AllocGlobal + Threads + Wait + Sync, G: Gate + Watch + Sync> WatchedRun<'a, T, G> {
-    // The text of the report of a graph.
-    fn graph_text(&self, graph: &Graph) -> Result<Pages, RunError>
-        requires limits { are_in_limits self.now.options.now ≡ true }
-        ensures answer { AnswersNetwork (numbers_asked (run_job self.now.options.now)) graph.now result }
-        ensures fault { IfErr result (IsFaultIn self.now.options.now) }
-        ensures first { (f : NodesFault) → f ≢ JobError.Memory → result ≡ Err (job_fault f) →
-            HasFirstFault self.now.options.now graph.now f }
-    {
-        let job = self.options.job();
-        let bare = job.bare_plan(graph)?;
-        let share = share_of(job.threads_for(self.rt), bare.parts(), 1);
-        let planned = plan_parts(self.rt, graph, &bare, share)?;
-        let plan = planned.plan;
-        let replicas = run_job(self.rt, graph, planned, self.options, self.gate)?;
-        let threads = usize::from(job.threads);
-        let text = replicas_text(self.rt, graph, &plan, &replicas, threads)?;
-        Ok(text)
-    }
-
-    // Runs the job of what is read, and gives the text of its report.
-    fn run_text<R: CountedRead>(
-        &self,
-        state: RandomState,
-        reader: &mut R,
-        counted: Option<&[u8]>,
-    ) -> Result<Pages, RunError>
-        ensures limits { are_in_limits self.now.options.now ≡ false →
-            result ≡ Err RunError.Options }
-        ensures text { IfOk result (TellsReport self.now.options.now (R.remaining reader.old)
-            counted.entry) }
-        ensures none { IfErr result (TellsNone self.now.options.now (R.remaining reader.old)
-            counted.entry) }
-        ensures read { result ≡ Err (RunError.Edges EdgeError.Read) →
-            Rises (R.failed_calls reader.old) (R.failed_calls reader.new) }
-        ensures failed { CountsOne (R.failed_calls reader.old) (R.failed_calls reader.new) →
-            result ≡ Err (RunError.Edges EdgeError.Read) }
-    {
-        if !self.options.are_in_limits() {
-            return Err(RunError::Options);
-        }
-        let job = self.options.job();
-        let read = job.read_network_by(self.rt, self.gate, state, reader, counted)?;
-        self.gate.after_read(read.records, read.graph.vertices());
-        self.graph_text(&read.graph)
     }
 }
 
@@ -321,7 +274,19 @@ pub fn run_watched<
     ensures untouched { IfErr result (λ e. e ≢ RunError.Write →
         Keeps (W.contents writer.old) (W.contents writer.new)) }
 {
-    let run = WatchedRun { rt, options, gate };
-    let text = run.run_text(state, reader, counted)?;
+    if !options.are_in_limits() {
+        return Err(RunError::Options);
+    }
+    let job = options.job();
+    let read = job.read_network_by(rt, gate, state, reader, counted)?;
+    let graph = &read.graph;
+    gate.after_read(read.records, graph.vertices());
+    let bare = job.bare_plan(graph)?;
+    let share = share_of(job.threads_for(rt), bare.parts(), 1);
+    let planned = plan_parts(rt, graph, &bare, share)?;
+    let plan = planned.plan;
+    let replicas = run_job(rt, graph, planned, options, gate)?;
+    let threads = usize::from(job.threads);
+    let text = replicas_text(rt, graph, &plan, replicas, threads)?;
     write_text(writer, &text)
 }

@@ -58,7 +58,7 @@ const RUN_AFTER: &str = "Example:
 Memory and accuracy:
   With --keep 0 and one partition a run takes at most about 2 * 2^log2m + 180 bytes a vertex and
   9 bytes an edge, and while it reads 110 bytes a vertex and 11 bytes an edge. With snapshots, which
-  are the default, runs that were measured took 1.3 to 2 times as much. With several partitions
+  are the default, runs that were measured took 1.2 to 1.7 times as much. With several partitions
   any --keep but 1 takes more memory, not less: the batches that they exchanged are dropped only if
   each superstep is kept. The relative error of a large set is about 1.04 / sqrt(2^log2m): 26 % at 4,
   6.5 % at 8, 3.3 % at 10. A set of fewer than 2.5 * 2^log2m vertices is estimated too large, the
@@ -402,34 +402,6 @@ fn run_listed<
     Ok(())
 }
 
-// A run over the input, with a list of counted vertices or without.
-fn run_job<
-    H: AllocGlobal + Threads + Wait + Sync,
-    R: CountedRead,
-    W: CountedWrite,
-    G: Gate + Watch + Sync,
->(
-    job: &Job<'_, H, G>,
-    state: RandomState,
-    counted: bool,
-    reader: &mut R,
-    writer: &mut W,
-) -> Result<(), JobFault>
-    ensures done { OnOk result (DoesJob job.now.options.now counted
-        (reads_of R.remaining R.failed_calls R.sure_calls reader.old reader.new)
-        (writes_of W.contents W.failed_calls writer.old writer.new)) }
-    ensures fault { IfErr result (FailsJob job.now.options.now counted
-        (reads_of R.remaining R.failed_calls R.sure_calls reader.old reader.new)
-        (writes_of W.contents W.failed_calls writer.old writer.new)) }
-    ensures few { counted ≡ true → ReadsFew (R.remaining reader.old) (R.remaining reader.new) }
-{
-    if counted {
-        return run_listed(job, state, reader, writer);
-    }
-    workers::run_watched(job.rt, state, reader, None, writer, job.options, job.gate)?;
-    Ok(())
-}
-
 // Random words to hash labels by.
 fn random_state<H: RandomSource>(rt: &H) -> Result<RandomState, RunFault>
     ensures { IfErr result (λ e. e ≡ RunFault.Random) }
@@ -473,12 +445,19 @@ pub fn run_by<
     };
     gate.before_run(options);
     let state = random_state(rt)?;
-    let job = Job {
-        rt,
-        options,
-        gate: &gate,
+    let answer = if words.counted {
+        let job = Job {
+            rt,
+            options,
+            gate: &gate,
+        };
+        run_listed(&job, state, reader, writer)
+    } else {
+        match workers::run_watched(rt, state, reader, None, writer, options, &gate) {
+            Ok(()) => Ok(()),
+            Err(fault) => Err(JobFault::Run(fault)),
+        }
     };
-    let answer = run_job(&job, state, words.counted, reader, writer);
     gate.after_run(answer.is_ok());
     match answer {
         Ok(()) => Ok(()),

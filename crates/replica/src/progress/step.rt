@@ -90,11 +90,13 @@ impl Progress {
         }
     }
 
-    /// Drops the accumulators if the run is over and each of them equals its row.
+    /// Drops what only going on needs: what the tables have kept for it, and the accumulators if the run is over and each
+    /// of them equals its row.
     pub(crate) fn let_go(&mut self)
         requires { CanLetGo self.old }
         ensures { StaysSame self.old self.new }
     {
+        self.tables.give_back();
         self.hearing.let_go();
     }
 

@@ -163,7 +163,7 @@ impl Relay<Tallies> {
         self.own.step(step, rows, weights)
     }
 
-    /// They go on as they do in one thread, in several.
+    /// Does what [`Relay::step`] does, in several threads. It takes no memory but that of the threads.
     pub fn step_by<R: Threads + Sync>(
         &mut self,
         rt: &R,

@@ -188,7 +188,7 @@ impl Replica {
 
     /// Closes the superstep as [`Replica::close`] does, in so many threads, or the next power of 2 below. If many vertices
     /// changed, each accumulator is raised by the rows of its own predecessors ("pulled") by one thread, so that threads
-    /// share nothing that is written. If there are as many threads as processors, there are up to four times as many,
+    /// share nothing that is written. If they are as many as the processors, or more, up to four times as many work,
     /// since parts of the work take unequal times.
     ///
     /// Errors are those of `close`. It takes no memory but that of its threads, which it joins; a thread that cannot be
@@ -221,9 +221,10 @@ impl Replica {
         )
     }
 
-    /// Gives back the memory that a run that is over needs no more: that of the index, and that of the accumulators if
-    /// each equals its row. If the run is not over it does nothing. What the replica has stays as it is, and only a
-    /// merge or a join may take the memory again.
+    /// Gives back the memory that a run that is over needs no more: that of the index, that of the accumulators if each
+    /// equals its row, and what sharing the tables took (but room taken with a table that somebody still holds). If the
+    /// run is not over it does nothing. What the replica has stays as it is, and only a merge, a join or a snapshot may
+    /// take memory again.
     pub fn give_back(&mut self)
         ensures { self.new ≡ self.old }
     {

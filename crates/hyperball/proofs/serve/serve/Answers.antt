@@ -1,41 +1,66 @@
-use Rattle.std.proofs.Common.{ap, inl, inr, refl}
+use Rattle.std.proofs.Common.{ap, arith, inl, inr, refl}
 use Rattle.std.specs.Prelude.{Err}
+use Rattle.hyperball.specs.Ends.{FailsBy, FailsWish}
 use Rattle.hyperball.specs.Streams.{Reads, Writes, reads_of, writes_of}
+use Rattle.hyperball.specs.declared.cli.Wish.{Wish}
+use Rattle.hyperball.specs.declared.cli.Wish.TheVariants as wish
+use Rattle.hyperball.specs.declared.serve.Fault.{Fault}
+use Rattle.hyperball.specs.declared.serve.Fault.TheVariants as unserved
 use Rattle.hyperball.proofs.TellingLemmas.{tells_none}
 use Rattle.hyperball.proofs.WholeLemmas.{none_read}
 use Rattle.hyperball.proofs.WishLemmas.{accepted_mistake, accepted_undone, says_done, says_reads, wish_leaves}
 use Rattle.hyperball.proofs.serve.serve.Goals as goal
 
-pub returns-in-Ok-clause-asked : goal.returns-in-Ok-clause-asked
-returns-in-Ok-clause-asked g c = λ a is.
-    let r : Reads = reads_of g.R.Read.remaining g.R.CountedRead.failed_calls g.R.CountedRead.sure_calls c.args.reader.now c.serve_wish.new.reader in
-    let w : Writes = writes_of g.W.Write.contents g.W.CountedWrite.failed_calls c.args.writer.now c.serve_wish.new.writer in
+-- a wish that fails with some fault fails
+fails_wish : (x : Wish) (r : Reads) (w : Writes) (f : Fault) → FailsBy x r w f → FailsWish x r w
+fails_wish (wish.Run v) r w unserved.Random none = inl none
+fails_wish (wish.Run v) r w (unserved.Run f) fails = inr (record { fault = f; due = fails })
+fails_wish (wish.Run v) r w (unserved.Replay f) fails = absurd fails
+fails_wish (wish.Run v) r w (unserved.Node f) fails = absurd fails
+fails_wish (wish.Run v) r w (unserved.Gather f) fails = absurd fails
+fails_wish (wish.Replay v) r w unserved.Random none = inl none
+fails_wish (wish.Replay v) r w (unserved.Run f) fails = absurd fails
+fails_wish (wish.Replay v) r w (unserved.Replay f) fails = inr (record { fault = f; due = fails })
+fails_wish (wish.Replay v) r w (unserved.Node f) fails = absurd fails
+fails_wish (wish.Replay v) r w (unserved.Gather f) fails = absurd fails
+fails_wish (wish.Node v) r w unserved.Random none = inl none
+fails_wish (wish.Node v) r w (unserved.Run f) fails = absurd fails
+fails_wish (wish.Node v) r w (unserved.Replay f) fails = absurd fails
+fails_wish (wish.Node v) r w (unserved.Node f) fails = inr (record { fault = f; due = fails })
+fails_wish (wish.Node v) r w (unserved.Gather f) fails = absurd fails
+fails_wish (wish.Gather v) r w unserved.Random none = inl none
+fails_wish (wish.Gather v) r w (unserved.Run f) fails = absurd fails
+fails_wish (wish.Gather v) r w (unserved.Replay f) fails = absurd fails
+fails_wish (wish.Gather v) r w (unserved.Node f) fails = absurd fails
+fails_wish (wish.Gather v) r w (unserved.Gather f) fails = inr (record { fault = f; due = fails })
+
+pub returns-in-Ok-answer-clause-asked : goal.returns-in-Ok-answer-clause-asked
+returns-in-Ok-answer-clause-asked g c = λ a is.
+    let r : Reads = reads_of g.R.Read.remaining g.R.CountedRead.failed_calls g.R.CountedRead.sure_calls c.args.reader.now c.fulfil-answer.new.reader in
+    let w : Writes = writes_of g.W.Write.contents g.W.CountedWrite.failed_calls c.args.writer.now c.fulfil-answer.new.writer in
     let says = c.in-Ok.ensures.asked a is in
     record {
-      done = λ zero. says_done a c.in-Ok.wish r w says (c.serve_wish.ensures.done zero);
-      fault = λ one. inr (record { found = c.in-Ok.wish; says = says; orders = c.in-Ok.ensures.found.orders; fails = c.serve_wish.ensures.fault one });
-      few = λ all. c.serve_wish.ensures.few (says_reads a c.in-Ok.wish says all);
+      done = λ zero. says_done a c.in-Ok.wish r w says c.in-Ok-answer.ensures.done;
+      fault = λ one. absurd (omega (arith, one));
+      few = λ all. c.in-Ok-answer.ensures.few (says_reads a c.in-Ok.wish says all);
     }
 
-pub returns-in-Ok-clause-refused : goal.returns-in-Ok-clause-refused
-returns-in-Ok-clause-refused g c = λ kinds has. record {
-  mistaken = λ mistakes. absurd (mistakes.0 (c.in-Ok.ensures.faults kinds has));
-  help = λ is. c.serve_wish.ensures.status;
-  version = λ is. c.serve_wish.ensures.status;
-  some = λ some zero. absurd (some (c.in-Ok.ensures.faults kinds has));
-}
+pub returns-in-Err-answer-clause-asked : goal.returns-in-Err-answer-clause-asked
+returns-in-Err-answer-clause-asked g c = λ a is.
+    let r : Reads = reads_of g.R.Read.remaining g.R.CountedRead.failed_calls g.R.CountedRead.sure_calls c.args.reader.now c.fulfil-answer.new.reader in
+    let w : Writes = writes_of g.W.Write.contents g.W.CountedWrite.failed_calls c.args.writer.now c.fulfil-answer.new.writer in
+    let says = c.in-Ok.ensures.asked a is in
+    record {
+      done = λ zero. absurd (omega (arith, zero, c.tell_fault.ensures));
+      fault = λ one. inr (record { found = c.in-Ok.wish; says = says; orders = c.in-Ok.ensures.found.orders; fails = fails_wish c.in-Ok.wish r w c.in-Err-answer.fault c.in-Err-answer.ensures.fault });
+      few = λ all. c.in-Err-answer.ensures.few (says_reads a c.in-Ok.wish says all);
+    }
 
-pub returns-in-Ok-clause-one : goal.returns-in-Ok-clause-one
-returns-in-Ok-clause-one g c = λ one.
-    let r : Reads = reads_of g.R.Read.remaining g.R.CountedRead.failed_calls g.R.CountedRead.sure_calls c.args.reader.now c.serve_wish.new.reader in
-    let w : Writes = writes_of g.W.Write.contents g.W.CountedWrite.failed_calls c.args.writer.now c.serve_wish.new.writer in
-    wish_leaves _ c.in-Ok.wish r w c.in-Ok.ensures.found.asks (c.serve_wish.ensures.fault one)
-
-pub returns-in-Ok-clause-told : goal.returns-in-Ok-clause-told
-returns-in-Ok-clause-told g c = λ zero. record {
-  silent = λ quiet. (c.serve_wish.ensures.told zero).silent (c.in-Ok.ensures.found.progress _ quiet);
-  told = (c.serve_wish.ensures.told zero).told;
-}
+pub returns-in-Err-answer-clause-one : goal.returns-in-Err-answer-clause-one
+returns-in-Err-answer-clause-one g c = λ one.
+    let r : Reads = reads_of g.R.Read.remaining g.R.CountedRead.failed_calls g.R.CountedRead.sure_calls c.args.reader.now c.fulfil-answer.new.reader in
+    let w : Writes = writes_of g.W.Write.contents g.W.CountedWrite.failed_calls c.args.writer.now c.fulfil-answer.new.writer in
+    wish_leaves _ c.in-Ok.wish r w c.in-Ok.ensures.found.asks (fails_wish c.in-Ok.wish r w c.in-Err-answer.fault c.in-Err-answer.ensures.fault)
 
 pub returns-in-Err-clause-asked : goal.returns-in-Err-clause-asked
 returns-in-Err-clause-asked g c = λ a is. record {

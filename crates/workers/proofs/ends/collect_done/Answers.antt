@@ -12,9 +12,9 @@ loop-own-preserved c =
     let h = c.loop-own.invariant in
     record {
       have = (here_done (λ own. own.items) own rest (into_iter_items c.loop-own.own-iterator) next h.have).1;
-      so_far = λ j o ends. collect_more (λ own. own.items) j o own rest c.loop-own.replicas.items c.push.new.self.items c.in-Some-done_replica.replica c.give_back.new.self
+      so_far = λ j o ends. collect_more (λ own. own.items) j o own rest c.loop-own.replicas.items c.push.new.self.items c.in-Some-done_replica.replica
           (subst (λ l. CollectSoFar (λ own. own.items) j o l c.loop-own.replicas.items) next (h.so_far j o ends))
-          (sym c.in-Some-done_replica.is ∙ c.done_replica.ensures) c.give_back.ensures c.in_ok-push.ensures.items;
+          (sym c.in-Some-done_replica.is ∙ c.done_replica.ensures) c.in_ok-push.ensures.items;
     }
 
 pub unreachable-requires : goal.unreachable-requires

@@ -1,5 +1,6 @@
-use Rattle.std.proofs.Common.{◌≤◌, ℕ, List}
+use Rattle.std.proofs.Common.{◌≤◌}
 use Rattle.edgelist.specs.Reading.{AreWithin, byte_of, limits_of}
+use Rattle.edgelist.specs.Records.{ForPlain}
 use Rattle.edgelist.specs.Rounds.{AreOn}
 use Rattle.edgelist.proofs.rounds.Rounds.read_rounds.Given as goal
 
@@ -7,6 +8,6 @@ abbrev pub invariant-loop-turn : goal.invariant-loop-turn
 invariant-loop-turn g l = record {
   in_range : l.number ≤ l.self.limits.edges;
   within : AreWithin l.self.limits.vertices l.number l.reading.labels l.reading.edges.items;
-  on : (text : List ℕ) → AreOn (limits_of l.self.limits) (byte_of l.self.delimiter) text 0 l.initial.reading.labels l.initial.reading.edges.items l.initial.pieces l.initial.held.bytes.items (g.S.Read.remaining l.initial.reader) →
-      AreOn (limits_of l.self.limits) (byte_of l.self.delimiter) text l.number l.reading.labels l.reading.edges.items l.pieces l.held.bytes.items (g.S.Read.remaining l.reader);
+  on : ForPlain (g.S.Read.remaining l.initial.reader) (λ text.
+      AreOn (limits_of l.self.limits) (byte_of l.self.delimiter) text l.number l.reading.labels l.reading.edges.items l.pieces.items l.held.bytes.items (g.S.Read.remaining l.reader));
 }
