@@ -47,26 +47,6 @@ fn copied(alloc: Global, table: &[u8], width: usize, places: &[u32]) -> Result<V
     Ok(own)
 }
 
-// Those rows and one more, whose vertex is appended to the vertices. They stay as they are if memory is refused.
-fn copied_and(
-    ids: &mut Vec<u32>,
-    table: &[u8],
-    width: usize,
-    places: &Vec<u32>,
-    id: u32,
-    row: &[u8],
-) -> Result<Vec<u8>, AllocError>
-    requires { All (λ p. (p + 1) * width ≤ length table.now) places.now.items }
-    ensures ids { OnOk result (ids.new.items ≡ ids.old.items ++ id ∷ []) }
-    ensures own { IfOk result
-        (λ own. own.items ≡ flat_at width table.now places.now.items ++ row.now) }
-    ensures ids_stay { OnErr result (ids.new.items ≡ ids.old.items) }
-{
-    let mut own = copied(*places.allocator(), table, width, places)?;
-    push_row(ids, &mut own, id, row)?;
-    Ok(own)
-}
-
 /// Appends a row to vertices and to registers, or leaves both as they are. Rows of a table are made own ones first.
 pub fn push_onto(
     ids: &mut Vec<u32>,
@@ -87,7 +67,8 @@ pub fn push_onto(
     match registers {
         Registers::Own(own) => push_row(ids, own, id, row),
         Registers::Shared(table, places) => {
-            let own = copied_and(ids, table, width, places, id, row)?;
+            let mut own = copied(*places.allocator(), table, width, places)?;
+            push_row(ids, &mut own, id, row)?;
             *registers = Registers::Own(own);
             Ok(())
         }

@@ -111,9 +111,6 @@ cut-made b s o i j k row v w form at middle end is first second =
       target = λ lt. word-of-second b s o j k row w middle end is second lt;
     }
 
-pub extends-twice : (b s t : List ℕ) → Extends b ((b ++ s) ++ t)
-extends-twice b s t = record { more = s ++ t; is = append_assoc b s t }
-
 -- ---- what is told of a record
 
 pub at-record : (b : List ℕ) (rs : List CutRecord) (i : ℕ) (r : CutRecord) → i < length rs → r ≡ get_or rs i r → get_or (map (cut_fields b) rs) i [] ≡ cut_fields b r
@@ -165,9 +162,3 @@ second-word b r fs is h =
     let more : r.middle < r.end = search (tests, arith, t) in
     has-target fs (slice_range b r.start r.middle) (slice_range b r.middle r.end) r.target (rw t at is) (h.target more))
     (λ f. has-no-target fs (slice_range b r.start r.middle) r.target (rw f at is))
-
-pub has-second : (b : List ℕ) (r : CutRecord) (fs : List (List ℕ)) → fs ≡ cut_fields b r → r.middle < r.end → fs ≡ fields_with (slice_range b r.start r.middle) (Some (slice_range b r.middle r.end))
-has-second b r fs is lt = let t : nat_lt r.middle r.end ≡ true = search (tests, arith, lt) in rw t at is
-
-pub has-one : (b : List ℕ) (r : CutRecord) (fs : List (List ℕ)) → fs ≡ cut_fields b r → r.end ≤ r.middle → fs ≡ fields_with (slice_range b r.start r.middle) None
-has-one b r fs is le = let f : nat_lt r.middle r.end ≡ false = search (tests, arith, le) in rw f at is

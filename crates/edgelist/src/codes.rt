@@ -1,6 +1,6 @@
 //! The codes of edges, made by several threads.
 
-ghost use Rattle.std.specs.Prelude.{◌≡◌, ◌+◌, ◌/◌, ◌^◌, ◌<◌, ◌≤◌, ◌++◌, IfOk, length, reverse, take};
+ghost use Rattle.std.specs.Prelude.{◌≡◌, ◌+◌, ◌^◌, ◌<◌, ◌≤◌, ◌++◌, IfOk, length, reverse, take};
 ghost use Rattle.std.specs.Thread.{IsSync};
 ghost use Rattle.edgelist.specs.Codes.{AreTurned, sources_between};
 ghost use Rattle.edgelist.specs.Edges.{AllBelow, EdgesAscend, below, source_lists};

@@ -1,8 +1,10 @@
 //! What is asked of a job, and what it is over a graph.
 
-ghost use Rattle.std.specs.Prelude.{◌≡◌, ◌<◌, [], Ok, Err, IfErr, IfOk, IfSome, IsOk, OnErr, OnOk, length};
+ghost use Rattle.std.specs.Prelude.{◌≡◌, ◌<◌, ◌^◌, [], false, Ok, Err, IfErr, IfOk, IfSome, IsOk};
+ghost use Rattle.std.specs.Prelude.{OnErr, OnOk, length};
 ghost use Rattle.ball_model.specs.Input.{IsPlain, records};
 ghost use Rattle.ball_model.specs.Job.{IsJob, job_of};
+ghost use Rattle.ball_model.specs.PlanValue.{plan_within};
 ghost use Rattle.ball_model.specs.RunText.{AreRead, counted_in, list_in, network_in, plan_asked};
 ghost use Rattle.ball_model.specs.RunText.{run_limits};
 ghost use Rattle.ball_model.specs.Streams.{Rises};
@@ -272,16 +274,19 @@ impl JobOptions {
         Ok(read)
     }
 
-    /// The plan over a graph but for its digest, as [`Graph::bare_plan`], or the first fault of these options. It takes no
-    /// memory, and no time to speak of.
-    pub fn bare_plan(&self, graph: &Graph) -> Result<Plan, PlanError>
-        ensures ok { IfOk result (λ bare. Ok (signed graph.now.graph bare) ≡
-            plan_asked (numbers_asked self.now) graph.now.graph) }
-        ensures refused { IfErr result (λ fault. Err fault ≡
-            plan_asked (numbers_asked self.now) graph.now.graph) }
-        ensures job { IfOk result (λ bare. IsJob (job_of graph.now.graph
-            (signed graph.now.graph bare))) }
-        ensures parts { IfOk result (λ bare. bare.parts ≡ self.now.parts) }
+    // The plan of these options over so many vertices, but with raw estimates and this digest, or their first fault. (A
+    // seed is below 2^64: `bare_plan` needs it for its clause `job`.)
+    fn raw_plan(&self, vertices: u32, job: [u8; 32]) -> Result<Plan, PlanError>
+        ensures value { result ≡ plan_within (run_limits self.now.large).vertices (record {
+          log2m = self.now.log2m;
+          seed = self.now.seed;
+          parts = self.now.parts;
+          limit = self.now.limit;
+          vertices = vertices;
+          corrected = false;
+          job = job;
+        }) }
+        ensures seed { self.now.seed < 2 ^ 64 }
     {
         let JobOptions {
             log2m,
@@ -291,9 +296,28 @@ impl JobOptions {
             ..
         } = *self;
         if self.large {
-            return graph.large_plan(self.estimate, log2m, seed, parts, limit);
+            return Plan::large(log2m, seed, parts, limit, vertices, job);
         }
-        graph.bare_plan(self.estimate, log2m, seed, parts, limit)
+        Plan::new(log2m, seed, parts, limit, vertices, job)
+    }
+
+    /// The plan over a graph but for its digest, whose bytes are all 0, or the first fault of these options. It takes
+    /// no memory, and no time to speak of. [`Graph::digest`] makes the one that belongs there, and can do so while parts
+    /// are made ([`Graph::part_with`]).
+    pub fn bare_plan(&self, graph: &Graph) -> Result<Plan, PlanError>
+        ensures ok { IfOk result (λ bare. Ok (signed graph.now.graph bare) ≡
+            plan_asked (numbers_asked self.now) graph.now.graph) }
+        ensures refused { IfErr result (λ fault. Err fault ≡
+            plan_asked (numbers_asked self.now) graph.now.graph) }
+        ensures job { IfOk result (λ bare. IsJob (job_of graph.now.graph
+            (signed graph.now.graph bare))) }
+        ensures parts { IfOk result (λ bare. bare.parts ≡ self.now.parts) }
+    {
+        let raw = self.raw_plan(graph.vertices(), [0; 32])?;
+        match self.estimate {
+            Estimate::Raw => Ok(raw),
+            Estimate::Corrected => Ok(raw.corrected([0; 32])),
+        }
     }
 
     /// The plan over a graph, with its job digest, or the first fault of these options. It takes no memory, and time in

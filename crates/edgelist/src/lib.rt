@@ -4,9 +4,9 @@
 //! records there are. [`Graph::count_only`] says which of the vertices balls count, [`Graph::plan`] gives the plan of a
 //! job over a graph, and [`Graph::part`] the [`Part`] of one partition. If all parts are made, [`Graph::part_with`]
 //! makes each by [`Graph::feeds`], so that the edges are walked over once for the masks of all. It takes a plan without
-//! its digest too ([`Graph::bare_plan`]): [`Graph::digest`] tells that while parts are made, and [`Part::with_job`]
-//! puts it in. [`JobOptions`] do all of that as a job asks for it: [`JobOptions::read_network`] reads in one thread,
-//! and [`JobOptions::read_network_by`] by as many as work on the job.
+//! its digest too ([`JobOptions::bare_plan`]): [`Graph::digest`] tells that while parts are made, and
+//! [`Part::with_job`] puts it in. [`JobOptions`] do all of that as a job asks for it: [`JobOptions::read_network`]
+//! reads in one thread, and [`JobOptions::read_network_by`] by as many as work on the job.
 //!
 //! ```text
 //! let mut reader = CountingReader::new(stdin);

@@ -9,7 +9,7 @@ ghost use Rattle.ball_model.specs.Graph.{preds_of, is_counted};
 ghost use Rattle.ball_model.specs.PlanValue.{vertices_of, part_size};
 ghost use Rattle.ball_model.specs.Job.{Job, IsPart, feed_mask, feeds_into, job_of, part_of};
 ghost use Rattle.ball_model.specs.Masks.{has_bit};
-ghost use Rattle.edgelist.specs.Feeding.{feeds_of, masks_of};
+ghost use Rattle.edgelist.specs.Feeding.{masks_of};
 
 use crate::feeds::{Feeds, Stride, feeds_over};
 use crate::graph::Graph;

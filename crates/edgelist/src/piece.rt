@@ -170,8 +170,8 @@ impl Piece {
         }
     }
 
-    // Takes all lines out.
-    fn clear(&mut self)
+    /// Takes all lines out.
+    pub(crate) fn clear(&mut self)
         ensures { has_no_lines self.new }
     {
         self.lines.clear();
@@ -215,34 +215,6 @@ impl Piece {
             hold_from(&mut self.lines, &mut held.bytes, end)?;
         }
         Ok(gives)
-    }
-
-    /// Takes lines as [`Piece::fill`] does, if the reader may have more at once, and else none.
-    pub(crate) fn fill_more<S: CountedRead>(
-        &mut self,
-        reader: &mut S,
-        held: &mut Held,
-        delimiter: Delimiter,
-        amount: Amount,
-        gives: Gives,
-    ) -> Result<Gives, EdgeError>
-        ensures on { (text : List ℕ) (done : List (List (List ℕ))) →
-            IsOn (byte_of delimiter) text done held.old.bytes.items (S.remaining reader.old) →
-            OnOk result (IsOn (byte_of delimiter) text (done ++ records_of self.new)
-            held.new.bytes.items (S.remaining reader.new)) }
-        ensures plain { (text : List ℕ) (done : List (List (List ℕ))) →
-            IsOn (byte_of delimiter) text done held.old.bytes.items (S.remaining reader.old) →
-            OnOk result (has_plain_lines self.new) }
-        ensures end { (gives ≡ Gives.Nothing → IsDone held.old.bytes.items (S.remaining reader.old)) →
-            IfOk result (λ g. g ≡ Gives.Nothing →
-            IsDone held.new.bytes.items (S.remaining reader.new)) }
-        ensures failed { IfErr result (λ e. (says : Result Network Refusal) → Refuses says e) }
-    {
-        if gives != Gives::Much {
-            self.clear();
-            return Ok(gives);
-        }
-        self.fill(reader, held, delimiter, amount)
     }
 
     /// Cuts the records of its lines into fields, if each of them has the form of one and there is memory.
@@ -321,7 +293,7 @@ impl Piece {
         ensures read { result ≢ Err EdgeError.Read }
     {
         if self.is_cut && reading.has_room(self.cut.len(), number, limits) {
-            reading.add_cut(alloc, &self.cut, number, limits)?;
+            reading.add_cut(&self.cut, number, limits)?;
             return Ok(number + self.cut.len() as u64);
         }
         self.read_to(alloc, reading, number, limits)

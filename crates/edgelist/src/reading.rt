@@ -126,13 +126,13 @@ impl Reading {
         })
     }
 
+    // Where its memory is from.
+    fn alloc(&self) -> Global {
+        *self.edges.allocator()
+    }
+
     // The number of a label, with which there are not more vertices than the limit.
-    fn add_label(
-        &mut self,
-        alloc: Global,
-        field: Field<'_>,
-        vertices: u32,
-    ) -> Result<usize, EdgeError>
+    fn add_label(&mut self, field: Field<'_>, vertices: u32) -> Result<usize, EdgeError>
         requires { IsWord field.label.now field.word }
         ensures labels { OnOk result (
             self.new.labels ≡ with_label self.old.labels field.entry.label.now) }
@@ -147,6 +147,7 @@ impl Reading {
             result ≢ Err EdgeError.Memory }
         ensures kept { result ≡ Err EdgeError.Memory → self.new.labels ≡ self.old.labels }
     {
+        let alloc = self.alloc();
         let number = self.labels.number(alloc, field.label, field.word)?;
         if self.labels.len() > vertices as usize {
             return Err(EdgeError::TooManyVertices);
@@ -155,12 +156,7 @@ impl Reading {
     }
 
     // Adds the label of a record of one field.
-    fn add_vertex(
-        &mut self,
-        alloc: Global,
-        field: Field<'_>,
-        vertices: u32,
-    ) -> Result<(), EdgeError>
+    fn add_vertex(&mut self, field: Field<'_>, vertices: u32) -> Result<(), EdgeError>
         requires { IsWord field.label.now field.word }
         ensures labels { OnOk result (
             self.new.labels ≡ with_label self.old.labels field.entry.label.now) }
@@ -172,14 +168,13 @@ impl Reading {
         ensures memory { result ≡ Err EdgeError.Memory →
             length self.old.labels ≤ vertices → length self.new.labels ≤ vertices }
     {
-        self.add_label(alloc, field, vertices)?;
+        self.add_label(field, vertices)?;
         Ok(())
     }
 
     // Adds the labels of a record of two fields, and its edge. A source too many is refused before the target is numbered.
     fn add_edge(
         &mut self,
-        alloc: Global,
         source: Field<'_>,
         target: Field<'_>,
         vertices: u32,
@@ -197,8 +192,8 @@ impl Reading {
         ensures memory { result ≡ Err EdgeError.Memory →
             length self.old.labels ≤ vertices → length self.new.labels ≤ vertices }
     {
-        let from = self.add_label(alloc, source, vertices)?;
-        let to = self.add_label(alloc, target, vertices)?;
+        let from = self.add_label(source, vertices)?;
+        let to = self.add_label(target, vertices)?;
         push_edge(&mut self.edges, to as u32, from as u32)?;
         Ok(())
     }
@@ -206,7 +201,6 @@ impl Reading {
     // Adds the record that follows `number` others.
     pub(crate) fn add(
         &mut self,
-        alloc: Global,
         row: &Row,
         number: u64,
         limits: EdgeLimits,
@@ -236,13 +230,13 @@ impl Reading {
             word: row.source_word(),
         };
         match target {
-            None => self.add_vertex(alloc, source, limits.vertices),
+            None => self.add_vertex(source, limits.vertices),
             Some(target) => {
                 let target = Field {
                     label: target,
                     word: row.target_word(),
                 };
-                self.add_edge(alloc, source, target, limits.vertices)
+                self.add_edge(source, target, limits.vertices)
             }
         }
     }
@@ -250,13 +244,7 @@ impl Reading {
 
 impl Reading {
     // Adds records that follow `number` others, each of which has the form of one; there is room for all their labels.
-    fn add_each(
-        &mut self,
-        alloc: Global,
-        rows: &[Row],
-        number: u64,
-        limits: EdgeLimits,
-    ) -> Result<(), EdgeError>
+    fn add_each(&mut self, rows: &[Row], number: u64, limits: EdgeLimits) -> Result<(), EdgeError>
         requires few { limits.edges ≤ most_records }
         requires form { All HasForm rows.now }
         requires number { number + length rows.now ≤ limits.edges }
@@ -266,7 +254,7 @@ impl Reading {
         ensures memory { IfErr result (λ e. e ≡ Memory) }
     {
         for i in 0..rows.len() {
-            self.add(alloc, &rows[i], number + i as u64, limits)?;
+            self.add(&rows[i], number + i as u64, limits)?;
         }
         Ok(())
     }
@@ -274,7 +262,6 @@ impl Reading {
     // Adds record i of those that were cut, which follows `number` others; there is room for it and its labels.
     fn add_one_cut(
         &mut self,
-        alloc: Global,
         cut: &Cut,
         i: usize,
         number: u64,
@@ -296,13 +283,13 @@ impl Reading {
             word: source_word,
         };
         match target {
-            None => self.add_vertex(alloc, source, limits.vertices),
+            None => self.add_vertex(source, limits.vertices),
             Some(target) => {
                 let target = Field {
                     label: target,
                     word: target_word,
                 };
-                self.add_edge(alloc, source, target, limits.vertices)
+                self.add_edge(source, target, limits.vertices)
             }
         }
     }
@@ -320,11 +307,12 @@ impl Reading {
     }
 
     // Looks at the entries of the labels of the records from i on, if i is the first of so many.
-    fn look_ahead_from(&mut self, alloc: Global, cut: &Cut, i: usize)
+    fn look_ahead_from(&mut self, cut: &Cut, i: usize)
         ensures labels { self.new.labels ≡ self.old.labels }
         ensures edges { self.new.edges.items ≡ self.old.edges.items }
     {
         if i % AHEAD == 0 {
+            let alloc = self.alloc();
             let records = cut.records();
             if i < records.len() {
                 let end = records.len().min(i + AHEAD);
@@ -336,7 +324,6 @@ impl Reading {
     /// Adds records that were cut and follow `number` others; there is room for all of them and their labels.
     pub(crate) fn add_cut(
         &mut self,
-        alloc: Global,
         cut: &Cut,
         number: u64,
         limits: EdgeLimits,
@@ -349,8 +336,8 @@ impl Reading {
         ensures memory { IfErr result (λ e. e ≡ Memory) }
     {
         for i in 0..cut.len() {
-            self.look_ahead_from(alloc, cut, i);
-            self.add_one_cut(alloc, cut, i, number + i as u64, limits)?;
+            self.look_ahead_from(cut, i);
+            self.add_one_cut(cut, i, number + i as u64, limits)?;
         }
         Ok(())
     }
@@ -389,7 +376,6 @@ impl Reading {
     // no look waits for another. Only the last record that is read can be refused.
     fn read_some<R: Read + Drop>(
         &mut self,
-        alloc: Global,
         reader: &mut Reader<R>,
         rows: &mut [Row],
         number: u64,
@@ -411,13 +397,14 @@ impl Reading {
     {
         let most = self.room_for(rows.len() - 1, number, limits);
         let (count, more) = read_rows(reader, rows, most)?;
+        let alloc = self.alloc();
         self.labels.look_ahead(alloc, &rows[..count]);
-        self.add_each(alloc, &rows[..count], number, limits)?;
+        self.add_each(&rows[..count], number, limits)?;
         let number = number + count as u64;
         if !more {
             return Ok((number, false));
         }
-        self.add(alloc, &rows[count], number, limits)?;
+        self.add(&rows[count], number, limits)?;
         Ok((number + 1, true))
     }
 }
@@ -429,7 +416,6 @@ impl Reading {
     // once or twice no clause tells (csv's contract says nothing of a reader at its end).
     pub(crate) fn read_more<R: Read + Drop, W: Watch>(
         &mut self,
-        alloc: Global,
         reader: &mut Reader<R>,
         rows: &mut [Row],
         number: u64,
@@ -464,7 +450,7 @@ impl Reading {
     {
         let mut n = number;
         for _turn in number..how.limits.edges + 1 {
-            let (so_far, more) = self.read_some(alloc, reader, rows, n, how.limits)?;
+            let (so_far, more) = self.read_some(reader, rows, n, how.limits)?;
             if !more {
                 return Ok(so_far);
             }
@@ -550,7 +536,7 @@ impl Reading {
             delimiter: lines.delimiter,
             limits,
         };
-        let read = self.read_more(alloc, &mut reader, rows, number, &how);
+        let read = self.read_more(&mut reader, rows, number, &how);
         without_read(read)
     }
 }

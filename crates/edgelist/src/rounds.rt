@@ -5,7 +5,7 @@ ghost use Rattle.std.specs.Prelude.{◌≡◌, ◌≢◌, ◌<◌, ◌≤◌, �
 ghost use Rattle.std.specs.Prelude.{Err, IfErr, IfOk, Ok, OnOk};
 ghost use Rattle.std.specs.List.{All, flat_map};
 ghost use Rattle.std.specs.Thread.{IsSync};
-ghost use Rattle.ball_model.specs.Input.{IsPlain, Network, Refusal, most_records, network_from, records};
+ghost use Rattle.ball_model.specs.Input.{Network, Refusal, most_records, network_from, records};
 ghost use Rattle.ball_model.specs.PlanValue.{most_vertices};
 ghost use Rattle.edgelist.specs.Pieces.{IsDone, IsOn, IsThrough};
 ghost use Rattle.edgelist.specs.Reading.{AreWithin, CountsOne, Refuses, byte_of, limits_of};
@@ -77,7 +77,8 @@ fn amount_of(i: usize, size: usize) -> Amount {
     Amount { least, most: size }
 }
 
-// Fills pieces with the next lines of a reader, and tells what the last call of the reader gave.
+// Fills pieces with the next lines of a reader, and tells what its last call gave. Once one gave less than was asked for,
+// the pieces after it have no lines.
 fn fill_pieces<S: CountedRead>(
     pieces: &mut [Piece],
     reader: &mut S,
@@ -98,7 +99,10 @@ fn fill_pieces<S: CountedRead>(
 {
     let mut gives = Gives::Much;
     for i in 0..pieces.len() {
-        gives = pieces[i].fill_more(reader, held, delimiter, amount_of(i, size), gives)?;
+        match gives {
+            Gives::Much => gives = pieces[i].fill(reader, held, delimiter, amount_of(i, size))?,
+            Gives::Little | Gives::Nothing => pieces[i].clear(),
+        }
     }
     Ok(gives)
 }
@@ -240,7 +244,8 @@ impl<'a, R: AllocGlobal + Threads + Sync, W: Watch> Rounds<'a, R, W> {
         Ok((n, gives))
     }
 
-    // Reads all records, and tells how many there are. Some pieces are filled, and cut while others are added, in turn.
+    // The labels and edges of all records, and how many records there are. Some pieces are filled, and cut while others are
+    // added, in turn.
     fn read_rounds<S: CountedRead>(
         &self,
         state: RandomState,

@@ -88,7 +88,7 @@ impl<'a, W: Watch> Sequential<'a, W> {
             (limits_of self.now.limits) result }
     {
         let mut reading = Reading::new(alloc, state)?;
-        let read = reading.read_more(alloc, reader, rows, 0, self);
+        let read = reading.read_more(reader, rows, 0, self);
         read.map(|number| (reading, number))
     }
 

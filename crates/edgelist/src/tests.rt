@@ -162,6 +162,20 @@ fn count(alloc: Global, graph: &mut Graph, list: Option<&[u8]>) -> bool {
     }
 }
 
+/// A job with log2m 4, seed 0, so many partitions and a limit of 4096.
+fn job_in(parts: u16, estimate: Estimate, large: bool) -> JobOptions {
+    JobOptions {
+        log2m: 4,
+        seed: 0,
+        parts,
+        limit: 4096,
+        estimate,
+        delimiter: Delimiter::Tab,
+        large,
+        threads: 0,
+    }
+}
+
 /// A part of a graph, by a plan with so many partitions.
 fn part_of(alloc: Global, graph: &Graph, parts: u16, p: u16) -> Option<Part> {
     let Ok(plan) = graph.plan(4, 0, parts, 4096) else {

@@ -13,7 +13,7 @@ use super::{Tally, closeness, estimate, lin};
 use rayon::iter::plumbing::LEAST_PIECE;
 use rayon::prelude::*;
 use registers::Rows;
-use std::alloc::{AllocError, Global};
+use std::alloc::{AllocError, AllocGlobal, Global};
 use std::ops::Range;
 use std::thread::Threads;
 
@@ -87,8 +87,7 @@ fn least_piece(count: usize, threads: usize) -> usize
 ///
 /// The work is dealt out to at most so many threads; if 0 are asked for, to as many as there are processors.
 pub fn figures_within(
-    rt: &(impl Threads + Sync),
-    alloc: Global,
+    rt: &(impl AllocGlobal + Threads + Sync),
     rows: &Rows,
     tallies: &[Tally],
     places: Range<usize>,
@@ -111,7 +110,7 @@ pub fn figures_within(
                     rows.entry.now.rows tallies.entry.now i d result }
             { figures_at(tallies[i].last, rows, tallies, i) },
         )
-        .collect(rt, alloc)
+        .collect(rt, rt.alloc())
 }
 
 // The figures of the vertex at a place, whose ball is estimated at so many.

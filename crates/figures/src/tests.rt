@@ -237,7 +237,7 @@ fn figures_are<H: AllocGlobal + Threads + Sync>(
 ) -> Result<bool, Fail>
     requires count { length tallies.now ≡ length rows.now.rows }
 {
-    let figures = figures_within(rt, rt.alloc(), rows, tallies, places, 2)?;
+    let figures = figures_within(rt, rows, tallies, places, 2)?;
     Ok(are_told(&figures, wanted))
 }
 
@@ -383,7 +383,7 @@ fn come_by<H: AllocGlobal + Threads + Sync>(
 ) -> Result<bool, Fail>
     requires count { length tallies.now ≡ length rows.now.rows }
 {
-    let all = figures_within(rt, rt.alloc(), rows, tallies, 0..5000, threads)?;
+    let all = figures_within(rt, rows, tallies, 0..5000, threads)?;
     Ok(are_in_order(&all))
 }
 

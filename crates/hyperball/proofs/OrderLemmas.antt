@@ -213,9 +213,6 @@ pub record SomeSoFar (pieces : List (Bor (List ℕ))) : Type 0 where
   pub orders : List (NodeId × ℕ)
   pub far : OrdersSoFar pieces orders
 
-pub none-so-far : SomeSoFar []
-none-so-far = record { orders = []; far = record { spelled = refl; fit = tt } }
-
 fit-push : (os : List (NodeId × ℕ)) (o : NodeId × ℕ) → AllByRecursion IsOrder os → IsOrder o → AllByRecursion IsOrder (os ++ o ∷ [])
 fit-push [] o fit one = (one, tt)
 fit-push (x ∷ os) o fit one = (fit.0, fit-push os o fit.1 one)

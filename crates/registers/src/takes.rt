@@ -1,6 +1,6 @@
 //! Rows that are taken over in several threads.
 
-ghost use Rattle.std.specs.Prelude.{◌≡◌, ◌+◌, ◌*◌, ◌<◌, ◌≤◌, length};
+ghost use Rattle.std.specs.Prelude.{◌≡◌, length};
 ghost use Rattle.std.specs.Thread.{IsSync};
 ghost use Rattle.ball_model.specs.Table.{pieces};
 ghost use Rattle.registers.specs.Differ.{DifferWhere};

@@ -1,8 +1,7 @@
 -- What rows and tallies have to keep to be handed out.
-use Rattle.std.proofs.Common.{◌≡◌, ℕ, ◌<◌, ◌*◌, ◌∙◌, Bool, false, List, [], length, slice_index_or, refl, arith}
+use Rattle.std.proofs.Common.{◌≡◌, ◌∙◌, Bool, false, List, length, slice_index_or, refl, arith}
 use Rattle.std.specs.Prelude.{◌||◌}
 use Rattle.ball_model.specs.Figures.{TallyValue}
-use Rattle.ball_model.specs.Checkpoint.{no_figures}
 use Rattle.ball_model.specs.Table.{Table}
 use Rattle.registers.specs.Joined.{AreSameShape}
 use Rattle.registers.specs.Differ.{DifferWhere, room_for}

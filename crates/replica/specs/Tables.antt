@@ -139,8 +139,10 @@ pub record CanHearOwn (part : PartValue) (targets : List (List ℕ)) (a : Tables
   pub inside : LeadInside (length h.accumulated.rows) targets
   pub ahead : AreAhead part.plan.log2m a.rows h
 
--- it is heard too
+-- it is heard too, and what others have told stays
 pub record HearsOwn (part : PartValue) (targets : List (List ℕ)) (a : TablesValue)
     (h g : HearingValue) : Type 0 where
   pub ahead : AreAhead part.plan.log2m a.rows g
   pub stands : OwnIsHeard targets part a.rows.rows a.marks h.accumulated.rows g.accumulated.rows
+  pub heard : g.heard ≡ h.heard
+  pub change : g.change ≡ h.change

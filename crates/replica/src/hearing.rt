@@ -11,7 +11,7 @@ ghost use Rattle.replica.specs.Level.{differences};
 ghost use Rattle.replica.specs.Tables.{CanHearOwn, HearsOwn};
 
 use crate::early::{Early, LEVELS};
-use crate::level;
+use crate::level::{self, Team};
 use crate::pull::hear_rows;
 use crate::spread::{Own, spread_batch, spread_own};
 use crate::tables::Tables;
@@ -187,8 +187,7 @@ impl Hearing {
     /// time.
     pub fn hear_own_by<R: Threads + Sync>(
         &mut self,
-        rt: &R,
-        threads: usize,
+        team: &Team<'_, R>,
         targets: &Targets,
         part: &Part,
         tables: &Tables,
@@ -203,7 +202,7 @@ impl Hearing {
             rows: tables.rows(),
             marks: tables.marks(),
         };
-        hear_rows(rt, threads, &own, &mut self.accumulated, &mut self.touched);
+        hear_rows(team, &own, &mut self.accumulated, &mut self.touched);
     }
 
     /// Begins the next superstep, once what is accumulated has become the rows: those are marked that this has changed,

@@ -12,6 +12,13 @@ use crate::relay::{Behind, Relay};
 use figures::{Estimator, Tally, moved_weight};
 use registers::{Rows, next_marked};
 
+/// Threads that work on a superstep: those of a runtime, and how many are asked for.
+#[derive(Drop)]
+pub struct Team<'a, R> {
+    pub rt: &'a R,
+    pub threads: usize,
+}
+
 /// The superstep that is closed, and how estimates are made.
 #[derive(Clone, Copy, Drop)]
 pub struct Closing<'a> {

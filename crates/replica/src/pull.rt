@@ -5,14 +5,14 @@
 
 ghost use Rattle.std.specs.Prelude.{◌≡◌, ◌≢◌, ◌+◌, ◌*◌, ◌/◌, ◌%◌, ◌^◌, ◌<◌, ◌≤◌, IsTrue, length};
 ghost use Rattle.std.specs.Thread.{IsSync};
-ghost use Rattle.registers.specs.Shape.{piece_at, with_piece};
+ghost use Rattle.registers.specs.Shape.{piece_at};
 ghost use Rattle.replica.specs.Heard.{SpreadsOwn};
 ghost use Rattle.replica.specs.Index.{targets_of};
 ghost use Rattle.replica.specs.Pull.{CanPullBlock, CanPullOwn, CanPullRow, PullsBlock, PullsPiece};
 ghost use Rattle.replica.specs.Pull.{CanHearRows, CanRaiseBy, PullsRow, RaisesBy};
 ghost use Rattle.replica.specs.Pull.{is_told, raised_over, rows_at};
 
-use crate::level::count_set;
+use crate::level::{Team, count_set};
 use crate::spread::{Own, spread_own};
 use edgelist::Part;
 use registers::{LINE, Rows, glance_over, max_into};
@@ -268,14 +268,14 @@ pub fn pull_own<R: Threads + Sync>(
     pull_halves(rt, &pull, 0, accumulated.cells_mut(), touched);
 }
 
-// How often rows are halved for so many threads, of which 1,024 count: there are no more blocks than threads. If all
+// How often rows are halved for a team, of whose threads at most 1,024 count: there are no more blocks than threads. If all
 // processors are to work on many rows there are four times as many, up to 1,024, since blocks take unequal times.
-fn halvings<R: Threads>(rt: &R, threads: usize, width: usize, marks: &[bool]) -> u32
+fn halvings<R: Threads>(team: &Team<'_, R>, width: usize, marks: &[bool]) -> u32
     requires { width < 2 ^ 16 }
 {
-    let whole = usize::BITS - (threads.min(MOST_THREADS) / 2).leading_zeros();
-    match available_parallelism(rt) {
-        Ok(processors) if threads < processors.get() => whole,
+    let whole = usize::BITS - (team.threads.min(MOST_THREADS) / 2).leading_zeros();
+    match available_parallelism(team.rt) {
+        Ok(processors) if team.threads < processors.get() => whole,
         _ if are_marked(marks, many_rows(width)) => (whole + BLOCKS).min(MOST_HALVINGS),
         _ => whole,
     }
@@ -311,13 +311,13 @@ fn are_many(threads: usize, parts: u16, width: usize, marks: &[bool]) -> bool
     0 < gain && are_marked(marks, least_rows(width).max(marks.len() / gain))
 }
 
-/// How often rows of so many registers are halved for so many threads; 0 if so few are marked that threads cost more
-/// than they save.
-pub fn halvings_for<R: Threads>(rt: &R, threads: usize, width: usize, marks: &[bool]) -> u32
+/// How often rows of so many registers are halved for a team; 0 if so few are marked that threads cost more than they
+/// save.
+pub fn halvings_for<R: Threads>(team: &Team<'_, R>, width: usize, marks: &[bool]) -> u32
     requires { width < 2 ^ 16 }
 {
-    if 1 < threads && are_marked(marks, least_rows(width)) {
-        halvings(rt, threads, width, marks)
+    if 1 < team.threads && are_marked(marks, least_rows(width)) {
+        halvings(team, width, marks)
     } else {
         0
     }
@@ -326,8 +326,7 @@ pub fn halvings_for<R: Threads>(rt: &R, threads: usize, width: usize, marks: &[b
 /// The own rows that are marked are heard: by the predecessors of each vertex if there are several threads and many
 /// rows are marked, and else by the targets of the marked ones.
 pub fn hear_rows<R: Threads + Sync>(
-    rt: &R,
-    threads: usize,
+    team: &Team<'_, R>,
     own: &Own<'_>,
     accumulated: &mut Rows,
     touched: &mut [bool],
@@ -338,9 +337,9 @@ pub fn hear_rows<R: Threads + Sync>(
         own.now.marks.now accumulated.old accumulated.new touched.old touched.new }
 {
     let (parts, width) = (own.part.plan().parts(), own.rows.width());
-    if are_many(threads, parts, width, own.marks) {
-        let depth = halvings(rt, threads, width, own.marks);
-        pull_own(rt, depth, own, accumulated, touched);
+    if are_many(team.threads, parts, width, own.marks) {
+        let depth = halvings(team, width, own.marks);
+        pull_own(team.rt, depth, own, accumulated, touched);
     } else {
         spread_own(own, accumulated, touched);
     }

@@ -1,7 +1,7 @@
 //! What a replica has at a superstep.
 
 ghost use Rattle.std.specs.Prelude.{◌≡◌, ◌↔◌, ℕ, ◌<◌, ◌+◌, ◌/◌, ◌%◌, ◌^◌, ◌==◌, ◌&&◌, false, [], map, length};
-ghost use Rattle.std.specs.Prelude.{slice_index_or, option_map, count_by, None, IsSome, IsTrue, IfOk};
+ghost use Rattle.std.specs.Prelude.{slice_index_or, option_map, count_by, None, IsSome, IsTrue};
 ghost use Rattle.std.specs.List.{All, list_any, slice_get};
 ghost use Rattle.figures.specs.Values.{value_of};
 ghost use Rattle.ball_model.specs.PlanValue.{mixing_of, vertices_of};

@@ -1,6 +1,6 @@
 //! The figures of a superstep, stepped in several threads.
 
-ghost use Rattle.std.specs.Prelude.{◌≡◌, ◌+◌, ◌≤◌, length, map};
+ghost use Rattle.std.specs.Prelude.{◌≡◌, map};
 ghost use Rattle.std.specs.Thread.{IsSync};
 ghost use Rattle.figures.specs.Values.{value_of};
 ghost use Rattle.replica.specs.Stepping.{CanStepBlock, StepsBlock};

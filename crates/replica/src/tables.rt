@@ -7,7 +7,7 @@ ghost use Rattle.figures.specs.Values.{value_of};
 ghost use Rattle.replica.specs.Tables.{AreFirst, AreRefilled, CanStep, HasRoomFor, NextTables};
 
 use crate::hearing::Hearing;
-use crate::level::{Closing, Step};
+use crate::level::{Closing, Step, Team};
 use crate::pull::halvings_for;
 use crate::relay::{Relay, Tallies};
 use crate::{level, start};
@@ -138,11 +138,10 @@ impl Tables {
         hearing.begin(&mut self.marks);
     }
 
-    /// Goes on as [`Tables::next`] does, in up to so many threads if it is worth it.
+    /// Goes on as [`Tables::next`] does, by a team if it is worth it.
     pub fn next_by<R: Threads + Sync>(
         &mut self,
-        rt: &R,
-        threads: usize,
+        team: &Team<'_, R>,
         closing: &Closing<'_>,
         hearing: &mut Hearing,
         weights: &mut [u64],
@@ -159,9 +158,11 @@ impl Tables {
             t: closing.t + 1,
             ahead,
             marks,
-            depth: halvings_for(rt, threads, ahead.width(), marks),
+            depth: halvings_for(team, ahead.width(), marks),
         };
-        let gain = self.tallies.step_by(rt, &step, &mut self.rows, weights);
+        let gain = self
+            .tallies
+            .step_by(team.rt, &step, &mut self.rows, weights);
         let sum = last + gain;
         self.sums.push_reserved(sum);
         hearing.begin(&mut self.marks);

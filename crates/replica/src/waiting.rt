@@ -2,7 +2,7 @@
 //!
 //! The accumulators that edges of several rows lead to are glanced at side by side, before the first of them is raised.
 
-ghost use Rattle.std.specs.Prelude.{◌≡◌, ◌<◌, ◌∷◌, [], length};
+ghost use Rattle.std.specs.Prelude.{◌≡◌, ◌∷◌, []};
 ghost use Rattle.replica.specs.Heard.{SpreadsOwn};
 ghost use Rattle.replica.specs.Spread.{CanSpreadOwn};
 ghost use Rattle.replica.specs.Waiting.{AddsEdges, CanAddEdges, CanRaiseAlong, MarksBeforeAlong};

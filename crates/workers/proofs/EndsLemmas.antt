@@ -9,7 +9,7 @@ use Rattle.workers.specs.declared.ends.JobError.{JobError}
 use Rattle.workers.specs.declared.worker.node_run.NodeEnd.{NodeEnd}
 use Rattle.workers.specs.declared.worker.node_run.NodeEnd.TheVariants as ends
 use Rattle.workers.specs.declared.worker.node_run.NodeError.{NodeError}
-use Rattle.workers.specs.Ends.{all_lost, done_of, each_has_done, fault_in, fault_noted, fault_unless, faults_in, first_done, first_fault, first_some, first_waiting, found_full, is_done, is_lost, lacked_memory, least_lost, least_waiting, no_faults, waited, with_end, with_part}
+use Rattle.workers.specs.Ends.{all_lost, done_of, each_has_done, fault_in, fault_noted, fault_unless, faults_in, first_done, first_fault, first_some, first_waiting, found_full, is_done, is_lost, lacked_memory, least_lost, least_waiting, waited, with_end, with_part}
 
 -- ---- tests and options, one behind another
 or_three : (a b c : Bool) → (a || (b || c)) ≡ ((a || b) || c)
@@ -76,9 +76,6 @@ lost_more r rs all was both h is = ap (λ (b : Bool). b && all_lost rs) is ∙ (
 pub done_more : (r : Result NodeEnd NodeError) (rs all : List (Result NodeEnd NodeError)) (was now : Bool) → (was || list_any is_done (r ∷ rs)) ≡ list_any is_done all → now ≡ (is_done r || was) → (now || list_any is_done rs) ≡ list_any is_done all
 done_more r rs all was now h is = ap (λ (b : Bool). b || list_any is_done rs) (is ∙ or_swap (is_done r) was) ∙ (sym (or_three was (is_done r) (list_any is_done rs)) ∙ h)
 
-pub done_all : (rest own : List (Result NodeEnd NodeError)) (now : Bool) → rest ≡ [] → (now || list_any is_done rest) ≡ list_any is_done own → now ≡ list_any is_done own
-done_all rest own now none h = sym (or_none now) ∙ (ap (λ (r : List (Result NodeEnd NodeError)). now || list_any is_done r) (sym none) ∙ h)
-
 -- the replica of the first that has
 pub first_more : (r : Result NodeEnd NodeError) (rs all : List (Result NodeEnd NodeError)) (was now : Option State) → first_some was (first_done (r ∷ rs)) ≡ first_done all → now ≡ first_some was (done_of r) →
     first_some now (first_done rs) ≡ first_done all
@@ -141,9 +138,6 @@ parts_more items p own rest f =
 pub all_noted_more : {V : Type 0} (items : V → List (Result NodeEnd NodeError)) (p : ℕ) (own : V) (rest all : List V) (now next : Faults) → with_parts items p (own ∷ rest) now ≡ faults_in items all →
     next ≡ with_part p (items own) now → with_parts items (p + 1) rest next ≡ faults_in items all
 all_noted_more items p own rest all now next h is = ap (with_parts items (p + 1) rest) is ∙ (sym (parts_more items p own rest now) ∙ h)
-
-pub parts_start : {V : Type 0} (items : V → List (Result NodeEnd NodeError)) (rest all : List V) (f : Faults) → rest ≡ all → f ≡ no_faults → with_parts items 0 rest f ≡ faults_in items all
-parts_start items rest all f same is = ap (λ r. with_parts items 0 r f) same ∙ ap (with_parts items 0 all) is
 
 pub parts_end : {V : Type 0} (items : V → List (Result NodeEnd NodeError)) (p : ℕ) (rest all : List V) (f : Faults) → rest ≡ [] → with_parts items p rest f ≡ faults_in items all → f ≡ faults_in items all
 parts_end items p rest all f none h = sym (parts_none items p f) ∙ (ap (λ r. with_parts items p r f) (sym none) ∙ h)

@@ -1,6 +1,6 @@
 -- The nodes of a job: their threads, their ends, and what is put together of these.
 use Rattle.std.proofs.Common.{◌≡◌, ◌≢◌, ◌<◌, ◌+◌, ◌-◌, ℕ, zero, suc, List, [], ◌∷◌, ◌++◌, length, map, Bool, true, false, ◌&&◌, refl, sym, ap, ◌∙◌, subst, arith, inl, inr, slice_index_or, length-append}
-use Rattle.std.specs.Prelude.{Option, None, Some, IfSome, IfOk, IfErr, is_some, Result, Ok, Err}
+use Rattle.std.specs.Prelude.{Option, Some, IfSome, IfOk, IfErr, is_some, Result, Ok, Err}
 use Rattle.std.proofs.lemmas.Bool.{and_parts, cases_eq}
 use Rattle.ball_model.specs.Caller.{Caller, IsCaller}
 use Rattle.ball_model.specs.Job.{Job}
@@ -18,7 +18,7 @@ use Rattle.workers.specs.declared.assignment.Assignment.{Assignment}
 use Rattle.workers.specs.Node.{IfDone, IsDone}
 use Rattle.workers.specs.Options.{order_for, orders_for}
 use Rattle.workers.specs.Ends.{done_of, each_has_done, first_done, first_fault, first_some}
-use Rattle.workers.specs.Job.{AreDone, AreEnds, AreNoted, EachAt, HasRun, HasSplit, IsAssigned, IsFirstFault, IsNodeEnd, IsPartEnd, IsPartStarted, KeepsItsOrders, job_in}
+use Rattle.workers.specs.Job.{AreEnds, AreNoted, EachAt, HasRun, HasSplit, IsAssigned, IsFirstFault, IsNodeEnd, IsPartEnd, IsPartStarted, KeepsItsOrders, job_in}
 use Rattle.workers.proofs.EndsLemmas.{done_map, first_map}
 
 -- ---- lists whose elements have what their places say
@@ -101,9 +101,6 @@ pub record AllSoFar {V : Type 0} (items : V → List (Result NodeEnd NodeError))
   pub each : EachAt (λ q own. IsPartEnd j o q (items own)) p rest
   pub noted : AreNoted j.plan.parts o f
 
-pub all_so_far_start : {V : Type 0} (items : V → List (Result NodeEnd NodeError)) (j : Job) (o : RunOptions) (ends : List V) (f : Faults) → AreEnds items j o ends → AreNoted j.plan.parts o f → AllSoFar items j o 0 ends f
-all_so_far_start items j o ends f h n = record { count = (let e : 0 + length ends ≡ j.plan.parts = omega (arith, h.count) in e); each = h.each; noted = n }
-
 pub all_so_far_more : {V : Type 0} (items : V → List (Result NodeEnd NodeError)) (j : Job) (o : RunOptions) (p : ℕ) (own : V) (rest : List V) (now next : Faults) → AllSoFar items j o p (own ∷ rest) now →
     (IsPartEnd j o p (items own) → p < j.plan.parts → AreNoted j.plan.parts o now → AreNoted j.plan.parts o next) → AllSoFar items j o (p + 1) rest next
 all_so_far_more items j o p own rest now next h noted = record {
@@ -129,11 +126,6 @@ pub record CollectSoFar {V : Type 0} (items : V → List (Result NodeEnd NodeErr
   pub each : EachAt (λ q own. IsPartEnd j o q (items own)) (length done) rest
   pub have : EachAt (IsDone j) 0 done
 
-pub collect_start : {V : Type 0} (items : V → List (Result NodeEnd NodeError)) (j : Job) (o : RunOptions) (rest all : List V) (done : List State) → rest ≡ all → done ≡ [] → AreEnds items j o all → CollectSoFar items j o rest done
-collect_start items j o rest all done same none h =
-    subst (λ (d : List State). CollectSoFar items j o rest d) (sym none)
-    (subst (λ xs. CollectSoFar items j o xs []) (sym same) (record { count = (let e : 0 + length all ≡ j.plan.parts = omega (arith, h.count) in e); each = h.each; have = tt }))
-
 pub collect_more : {V : Type 0} (items : V → List (Result NodeEnd NodeError)) (j : Job) (o : RunOptions) (own : V) (rest : List V) (done then : List State) (r : State) → CollectSoFar items j o (own ∷ rest) done →
     Some r ≡ first_done (items own) → then ≡ done ++ r ∷ [] → CollectSoFar items j o rest then
 collect_more items j o own rest done then r h is pushed =
@@ -146,11 +138,6 @@ collect_more items j o own rest done then r h is pushed =
       each = subst (λ (n : ℕ). EachAt (λ q w. IsPartEnd j o q (items w)) n rest) (sym more) h.each.1;
       have = each_push (IsDone j) 0 done r h.have last;
     })
-
-pub collect_end : {V : Type 0} (items : V → List (Result NodeEnd NodeError)) (j : Job) (o : RunOptions) (rest : List V) (done : List State) → rest ≡ [] → CollectSoFar items j o rest done → AreDone j done
-collect_end items j o rest done none h =
-    let count = ap length none in
-    record { count = omega (arith, count, h.count); each = h.have }
 
 -- ---- the first fault of the ends
 each_map : {A B : Type 0} (f : A → B) (has : ℕ → B → Type 0) (k : ℕ) (xs : List A) → EachAt (λ n x. has n (f x)) k xs → EachAt has k (map f xs)
@@ -175,10 +162,6 @@ first_of_ends items j o xs (Err e) all first lacking = λ other. record {
 }
 
 -- ---- threads that are started
-pub some_weaker : {A : Type 0} (o : Option A) (P Q : A → Type 0) → ((a : A) → P a → Q a) → IfSome o P → IfSome o Q
-some_weaker None P Q f h = tt
-some_weaker (Some a) P Q f h = f a h
-
 pub split_more : (b : BoardView) (j : Job) (n : ℕ) (v w : SeatView) → HasSplit b j n v → SharesNumbers v w → w.room ≡ v.room - share v.room → HasSplit b j (n + 1) w
 split_more b j n v w h kept left =
     let least = h.least in

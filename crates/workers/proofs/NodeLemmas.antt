@@ -1,9 +1,9 @@
 -- How a node ends, by the fate of its replica.
-use Rattle.std.proofs.Common.{◌≡◌, ◌≢◌, ◌∙◌, ℕ, ◌<◌, [], append-nil, arith, refl, subst, sym}
-use Rattle.std.specs.Prelude.{None, Result, Ok, Err, IfOk, IfErr, OnOk, OnErr}
-use Rattle.ball_model.specs.Caller.{Caller, Extends, IsCaller, IsFull}
+use Rattle.std.proofs.Common.{◌≡◌, ◌≢◌, ◌∙◌, ℕ, ◌<◌, [], arith, refl, sym}
+use Rattle.std.specs.Prelude.{Result, Ok, Err, IfOk, IfErr, OnOk, OnErr}
+use Rattle.ball_model.specs.Caller.{Caller, IsCaller, IsFull}
 use Rattle.ball_model.specs.Held.{start_holding}
-use Rattle.ball_model.specs.History.{calls_by, entries_of, holding_in, start_history}
+use Rattle.ball_model.specs.History.{holding_in, start_history}
 use Rattle.ball_model.specs.Job.{Job}
 use Rattle.ball_model.specs.State.{State}
 use Rattle.workers.specs.declared.worker.node_run.Fate.{Fate}
@@ -12,8 +12,8 @@ use Rattle.workers.specs.declared.worker.node_run.NodeEnd.{NodeEnd}
 use Rattle.workers.specs.declared.worker.node_run.NodeError.{NodeError}
 use Rattle.workers.specs.declared.worker.node_run.NodeError.TheVariants as fault
 use Rattle.workers.specs.declared.worker.node_run.NodeOrders.{NodeOrders}
-use Rattle.workers.specs.Job.{HasRun, KeepsItsOrders}
-use Rattle.workers.specs.Tie.{AreOfNode, HasPath, IsPath}
+use Rattle.workers.specs.Job.{HasRun}
+use Rattle.workers.specs.Tie.{HasPath, IsPath}
 use Rattle.workers.specs.Superstep.{EndsAs, IsFate, end_with}
 use Rattle.workers.proofs.PathLemmas.{gone_nowhere, left, left_by, paths_are_of_nodes, wandered}
 use Rattle.workers.proofs.SeenLemmas.{extends_self}
@@ -116,27 +116,6 @@ out_of_memory v p orders e is = record {
 }
 
 -- ---- a run of a node, by what it says at its end
-pub keeps_orders : (v w : Caller) (p : ℕ) (orders : NodeOrders) (r : Result NodeEnd NodeError) → EndsAs v p orders r w →
-    (v.seen.job.plan.parts ≡ 1 → orders.keep ≡ 0 → orders.restart ≡ None → r ≢ Err fault.BookFull) → KeepsItsOrders v.seen.job p orders r
-keeps_orders v w p orders r ends fits = record { done = ends.done; lost = ends.lost; alone = ends.alone; alone_fits = fits }
-
-has_filled : (limit : ℕ) (w : Caller) (r : Result NodeEnd NodeError) → w.limit ≡ limit → IfErr r (λ e. e ≡ fault.BookFull → IsFull w) → IfErr r (λ e. e ≡ fault.BookFull → entries_of w.seen ≡ limit)
-has_filled limit w (Ok end) is full = tt
-has_filled limit w (Err e) is full = λ same. full same ∙ is
-
-pub has_run : (v w : Caller) (j : Job) (limit p : ℕ) (orders : NodeOrders) (r : Result NodeEnd NodeError) → v.seen.job ≡ j → v.limit ≡ limit → p < v.seen.job.plan.parts → calls_by v.number v.seen ≡ [] → Extends v w →
-    EndsAs v p orders r w → HasRun j limit p orders r
-has_run v w j limit p orders r job is below start seen ends = record {
-  first = v;
-  last = w;
-  job = job;
-  start = start;
-  seen = seen;
-  ends = ends;
-  made = subst (λ (k : Job). AreOfNode k (calls_by v.number w.seen)) job (paths_are_of_nodes v w p ends.path.new (calls_by v.number w.seen) below start (wandered orders.keep v w p (start_holding v.seen.job.plan p) ends.path.new ends.path.come) ([], append-nil (calls_by v.number w.seen)));
-  full = has_filled limit w r (seen.limit ∙ is) ends.full;
-}
-
 -- a node without a thread made no call
 pub never_ran : (j : Job) (entries p : ℕ) (orders : NodeOrders) → p < j.plan.parts → HasRun j entries p orders (Err fault.Memory)
 never_ran j entries p orders below =

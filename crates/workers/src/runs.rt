@@ -135,8 +135,8 @@ fn give_back(replicas: &mut [Replica])
     }
 }
 
-// The text of the report of replicas at the end of their run, by at most so many threads; by all processors if 0 are
-// asked for. The error is that memory was refused.
+// The text of the report of replicas at the end of their run, which give back first what they need no more, by at most so
+// many threads; by all processors if 0 are asked for. The error is that memory was refused.
 fn replicas_text<T: AllocGlobal + Threads + Sync>(
     rt: &T,
     graph: &Graph,

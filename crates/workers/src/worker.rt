@@ -14,6 +14,6 @@ pub struct Worker<'a, R, G> {
     pub gate: &'a G,
     pub node: NodeId,
     pub orders: NodeOrders,
-    /// How many threads close a superstep at most.
+    /// How many threads are asked for to close a superstep.
     pub threads: usize,
 }

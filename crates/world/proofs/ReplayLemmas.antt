@@ -1,5 +1,5 @@
 -- A replay whose input was read.
-use Rattle.std.proofs.Common.{◌≡◌, ℕ, List, Option, refl, inl, inr}
+use Rattle.std.proofs.Common.{◌≡◌, ℕ, List, Option, refl, inr}
 use Rattle.ball_model.specs.declared.world.Event.{Event}
 use Rattle.ball_model.specs.Input.{Network}
 use Rattle.ball_model.specs.Job.{Job}

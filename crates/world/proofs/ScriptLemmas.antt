@@ -267,16 +267,6 @@ unfolding events_from
 no-fault script [] number h none = h.meaning
 no-fault script (c ∷ rest) number h none = absurd (omega (arith, eqb-true (suc (length rest)) 0 none))
 
--- so it says events
-pub events-of : (r : Result (List Event) ℕ) → fault_line r ≡ None → (es : List Event) × (r ≡ Ok es)
-events-of (Ok es) is = (es, refl)
-events-of (Err line) is = absurd (cc)
-
--- or has its first fault there
-pub line-of : (r : Result (List Event) ℕ) (line : ℕ) → fault_line r ≡ Some line → r ≡ Err line
-line-of (Ok es) line is = absurd (cc)
-line-of (Err other) line is = let same : other ≡ line = cc in ap Err same
-
 -- ---- events
 
 -- these events, and those that follow

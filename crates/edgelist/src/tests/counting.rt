@@ -79,23 +79,17 @@ fn jobs(graph: &Graph) -> Result<[[u8; 32]; 2], PlanError> {
     Ok([raw.job(), corrected.job()])
 }
 
-// Both job digests, each made for a plan without one.
-fn digests(graph: &Graph) -> Result<[[u8; 32]; 2], PlanError> {
-    let raw = graph.bare_plan(Estimate::Raw, 4, 0, 2, 4096)?;
-    let corrected = graph.bare_plan(Estimate::Corrected, 4, 0, 2, 4096)?;
-    Ok([graph.digest(&raw), graph.digest(&corrected)])
-}
-
-// Both job digests, each made for a large plan.
-fn large_digests(graph: &Graph) -> Result<[[u8; 32]; 2], PlanError> {
-    let raw = graph.large_plan(Estimate::Raw, 4, 0, 2, 4096)?;
-    let corrected = graph.large_plan(Estimate::Corrected, 4, 0, 2, 4096)?;
+// Both job digests, each made for a plan without one, usual or large.
+fn digests(graph: &Graph, large: bool) -> Result<[[u8; 32]; 2], PlanError> {
+    let raw = job_in(2, Estimate::Raw, large).bare_plan(graph)?;
+    let corrected = job_in(2, Estimate::Corrected, large).bare_plan(graph)?;
     Ok([graph.digest(&raw), graph.digest(&corrected)])
 }
 
 // Whether a graph has these job digests, whichever way they are made.
 fn are_jobs(graph: &Graph, wanted: [[u8; 32]; 2]) -> bool {
-    jobs(graph) == Ok(wanted) && digests(graph) == Ok(wanted) && large_digests(graph) == Ok(wanted)
+    let bare = digests(graph, false) == Ok(wanted) && digests(graph, true) == Ok(wanted);
+    jobs(graph) == Ok(wanted) && bare
 }
 
 // An edge list with tabs, a list, and the job digests of its graph then.

@@ -1,6 +1,6 @@
 //! The command `hyperball run`: its words, and a run of them.
 
-ghost use Rattle.std.specs.Prelude.{◌≡◌, ◌≢◌, [], Err, IfErr, IfOk, IfSome, List, MatchOption};
+ghost use Rattle.std.specs.Prelude.{◌≡◌, [], Err, IfErr, IfOk, IfSome, List, MatchOption};
 ghost use Rattle.std.specs.Prelude.{MatchResult, OnOk, codes, false, is_some, option_map};
 ghost use Rattle.std.specs.Prelude.{true, ⊤, Bool, ℕ};
 ghost use Rattle.clap.specs.Words.{App, found_of, has_subcommand, rows_of, subcommand_rows_of};

@@ -1,6 +1,6 @@
 -- The answer to a close.
 use Rattle.std.proofs.Common.{◌≡◌, ℕ, ◌+◌, arith, sym, ◌∙◌}
-use Rattle.replica.proofs.Names.{Option, None, Result, Ok, OnOk, IfOk, Job, close_unless, missing_of, State, StandsFor, content_of}
+use Rattle.replica.proofs.Names.{Option, None, Result, Ok, OnOk, Job, close_unless, missing_of, State, StandsFor, content_of}
 use Rattle.ball_model.specs.declared.names.Verdict.{Verdict}
 use Rattle.ball_model.specs.declared.names.Verdict.TheVariants as verdict
 use Rattle.ball_model.specs.declared.names.CloseError.{CloseError}
@@ -21,9 +21,6 @@ closes v r n is ok = ok_from (missing_of v.part.plan.parts v.part.number (conten
 
 pub on_ok : {P Q : Type 0} (r : Result ℕ CloseError) → OnOk r P → ((n : ℕ) → r ≡ Ok n → P → Q) → OnOk r Q
 on_ok r p f = grind arith
-
-pub if_ok : {P : Type 0} {Q : ℕ → Type 0} (r : Result ℕ CloseError) → OnOk r P → ((n : ℕ) → r ≡ Ok n → P → Q n) → IfOk r Q
-if_ok r p f = grind arith
 
 -- a replica that stands for its content and closes stands for the next superstep
 pub close_stands : (j : Job) (p t n : ℕ) (v w : State) (r : Result ℕ CloseError) → StandsFor j p t v → IsState v → r ≡ close_answer v → r ≡ Ok n → Advances v w → StandsFor j p (t + 1) w

@@ -6,7 +6,7 @@ ghost use Rattle.replica.specs.Level.{close_answer, level_verdict};
 ghost use Rattle.replica.specs.Change.{Advances};
 ghost use Rattle.replica.specs.Seen.{GoesFurther, HoldsTogether, IsState};
 
-use crate::level::Closing;
+use crate::level::{Closing, Team};
 use crate::targets::Targets;
 use crate::{Progress, Shown};
 use ball_model::{CloseError, Verdict};
@@ -14,11 +14,10 @@ use figures::Estimator;
 use std::thread::Threads;
 
 impl Progress {
-    /// Closes the superstep as [`Progress::close_level`] does, in so many threads if it is worth it.
+    /// Closes the superstep as [`Progress::close_level`] does, by a team if it is worth it.
     pub(crate) fn close_level_by<R: Threads + Sync>(
         &mut self,
-        rt: &R,
-        threads: usize,
+        team: &Team<'_, R>,
         targets: &Targets,
         estimator: &Estimator,
         weights: &mut [u64],
@@ -35,7 +34,7 @@ impl Progress {
             Some(source) => Err(CloseError::Waiting { source }),
             None => match self.level_verdict() {
                 Verdict::GoOn => {
-                    self.advance_by(rt, threads, targets, estimator, weights);
+                    self.advance_by(team, targets, estimator, weights);
                     Ok(next)
                 }
                 Verdict::Stable | Verdict::Limit => Err(CloseError::Finished),
@@ -46,8 +45,7 @@ impl Progress {
     // One superstep more, as `advance`.
     fn advance_by<R: Threads + Sync>(
         &mut self,
-        rt: &R,
-        threads: usize,
+        team: &Team<'_, R>,
         targets: &Targets,
         estimator: &Estimator,
         weights: &mut [u64],
@@ -58,13 +56,13 @@ impl Progress {
     {
         let plan = *self.part.plan();
         self.hearing
-            .hear_own_by(rt, threads, targets, &self.part, &self.tables);
+            .hear_own_by(team, targets, &self.part, &self.tables);
         let closing = Closing {
             estimator: &*estimator,
             t: self.superstep,
         };
         self.tables
-            .next_by(rt, threads, &closing, &mut self.hearing, weights);
+            .next_by(team, &closing, &mut self.hearing, weights);
         self.superstep += 1;
         self.hearing.hear_early(targets, &plan, &mut self.early, 0);
     }

@@ -85,14 +85,9 @@ impl Relay<Rows> {
             room,
             marks: stale,
         } = self.out.take()?;
-        bring_up(
-            &mut self.own,
-            self.behind.take(),
-            room,
-            &mut self.spare,
-            ahead,
-            marks,
-        );
+        let (own, spare) = bring_up(self.behind.take(), room, ahead, marks);
+        self.own = own;
+        self.spare = spare;
         let stale = filled(stale, marks);
         Some(Behind { table, stale })
     }
@@ -188,28 +183,23 @@ fn mark_one(behind: &mut Option<Behind<Rows>>, i: usize)
     }
 }
 
-// The rows become those of `ahead` but in marked rows: the table shown before is taken for that, if nobody else holds
-// it, and all rows are copied into the room otherwise.
+// The rows of `ahead` but in marked rows, and what room is left over: the table shown before is taken for them, if nobody
+// else holds it, and all rows are copied into the room otherwise.
 fn bring_up(
-    own: &mut Rows,
     behind: Option<Behind<Rows>>,
     room: Vec<u8>,
-    spare: &mut Option<Vec<u8>>,
     ahead: &Rows,
     marks: &[bool],
-)
+) -> (Rows, Option<Vec<u8>>)
     requires behind { IfSome behind (λ b.
         DifferWhereEither b.stale marks.now b.table ahead.now) }
     requires room { room_for ahead.now ≤ vec_capacity room }
     requires marks { length marks.now ≡ length ahead.now.rows }
-    ensures { DifferWhere marks.now own.new ahead.now }
+    ensures { DifferWhere marks.now result.0 ahead.now }
 {
     match take_back(behind, ahead, marks) {
-        Some(table) => {
-            *own = table;
-            *spare = Some(room);
-        }
-        None => *own = ahead.copied_into(room),
+        Some(table) => (table, Some(room)),
+        None => (ahead.copied_into(room), None),
     }
 }
 

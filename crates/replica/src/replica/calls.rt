@@ -22,6 +22,7 @@ ghost use Rattle.replica.specs.Start.{Starts};
 
 use crate::early::Early;
 use crate::first::FirstTables;
+use crate::level::Team;
 use crate::progress::is_same;
 use crate::shown::Shown;
 use crate::targets::Targets;
@@ -212,13 +213,9 @@ impl Replica {
         // a step of a run
         ensures step { (j : Job) (p : ℕ) → Closes j p result self.old self.new }
     {
-        self.progress.close_level_by(
-            rt,
-            threads,
-            &self.targets,
-            &self.estimator,
-            &mut self.weights,
-        )
+        let team = Team { rt, threads };
+        self.progress
+            .close_level_by(&team, &self.targets, &self.estimator, &mut self.weights)
     }
 
     /// Gives back the memory that a run that is over needs no more: that of the index, that of the accumulators if each

@@ -38,4 +38,6 @@ returns g c =
         kept = subst (λ (l : List Bool). AreTouched rows own l) (sym (items g at)) (marked g at);
       };
       stands = subst (λ (a : HearingValue). OwnIsHeard c.args.targets.now part rows marks a.accumulated.rows own) c.self.view_is (rw (c.rows.ensures, c.marks.ensures) at c.hear_rows.ensures.stands);
+      heard = ap (λ (a : HearingValue). a.heard) c.self.view_is;
+      change = ap (λ (a : HearingValue). a.change) c.self.view_is;
     }

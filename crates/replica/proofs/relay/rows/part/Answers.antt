@@ -1,4 +1,4 @@
-use Rattle.std.proofs.Common.{◌≡◌, Bool, false, Option, None, Some, is_some, refl, sym, ◌∙◌}
+use Rattle.std.proofs.Common.{◌≡◌, false, Option, None, Some, is_some, refl, sym, ◌∙◌}
 use Rattle.replica.specs.Relay.{shown_of}
 use Rattle.replica.proofs.relay.rows.part.Goals as goal
 
