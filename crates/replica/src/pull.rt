@@ -268,8 +268,8 @@ pub fn pull_own<R: Threads + Sync>(
     pull_halves(rt, &pull, 0, accumulated.cells_mut(), touched);
 }
 
-// How often rows are halved for a team, of whose threads at most 1,024 count: there are no more blocks than threads. If all
-// processors are to work on many rows there are four times as many, up to 1,024, since blocks take unequal times.
+// How often rows are halved for a team, of whose threads at most 1,024 count: into no more blocks than threads, or, if all
+// processors are to work on many rows, into four times as many, up to 1,024, since blocks take unequal times.
 fn halvings<R: Threads>(team: &Team<'_, R>, width: usize, marks: &[bool]) -> u32
     requires { width < 2 ^ 16 }
 {

@@ -12,7 +12,7 @@ use ball_model::NodeId;
 use ball_model::plan::MOST_REPLICAS;
 use edgelist::Watch;
 use std::alloc::{AllocError, Global};
-use std::sync::atomic::{AtomicU32, Ordering};
+use std::sync::atomic::AtomicU32;
 
 /// Which nodes have ended before the end of the run, and how many threads a node may use.
 #[derive(Drop)]

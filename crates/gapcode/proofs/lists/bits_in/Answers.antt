@@ -1,4 +1,4 @@
-use Rattle.std.proofs.Common.{◌≡◌, ◌∙◌, ◌<◌, ◌+◌, ◌-◌, ℕ, Bool, List, length, get_or, ap, sym, subst, arith}
+use Rattle.std.proofs.Common.{◌≡◌, ◌∙◌, ◌<◌, ◌+◌, ◌-◌, ℕ, Bool, List, length, get_or, ap, subst, arith}
 use Rattle.std.specs.List.{flat_map}
 use Rattle.gapcode.specs.Bits.{bits_of}
 use Rattle.gapcode.specs.Lists.{list_bits, BeginsAt}

@@ -1,4 +1,4 @@
-use Rattle.std.proofs.Common.{◌∙◌, ◌+◌, ◌++◌, ◌∷◌, [], ℕ, List, ap, arith}
+use Rattle.std.proofs.Common.{◌∙◌, ◌+◌, ◌++◌, ◌∷◌, [], ℕ, ap, arith}
 use Rattle.gapcode.proofs.JoinLemmas.{moving, next_moved, moves_on, all_moved}
 use Rattle.gapcode.proofs.places.moved_behind.Goals as goal
 

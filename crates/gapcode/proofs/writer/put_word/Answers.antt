@@ -1,4 +1,4 @@
-use Rattle.std.proofs.Common.{◌≡◌, ◌∙◌, ℕ, List, true, is_ok, ◌++◌, ap, arith}
+use Rattle.std.proofs.Common.{◌≡◌, true, is_ok, arith}
 use Rattle.gapcode.proofs.JoinLemmas.{word_put}
 use Rattle.gapcode.proofs.writer.put_word.Goals as goal
 

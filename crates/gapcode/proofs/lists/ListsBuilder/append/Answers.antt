@@ -1,4 +1,4 @@
-use Rattle.std.proofs.Common.{◌≡◌, ◌∙◌, ◌++◌, [], ℕ, List, length, ap, sym, arith}
+use Rattle.std.proofs.Common.{◌∙◌, ◌++◌, [], ℕ, List, length, ap, sym, arith}
 use Rattle.std.specs.Prelude.{replicate, false}
 use Rattle.std.specs.List.{flat_map}
 use Rattle.gapcode.specs.Bits.{bits_of}
