@@ -11,7 +11,7 @@ use Rattle.edgelist.specs.Guessing.{HasWord, IsWord}
 use Rattle.edgelist.specs.Reading.{fields_with}
 use Rattle.edgelist.specs.Records.{HasForm}
 use Rattle.edgelist.specs.declared.cut.CutRecord.{CutRecord}
-use Rattle.edgelist.specs.declared.numbering.LabelWord.{LabelWord}
+use Rattle.edgelist.specs.declared.word.LabelWord.{LabelWord}
 use Rattle.edgelist.proofs.GuessLemmas.{has-no-target, has-source, has-target, source-word, target-word}
 
 -- ---- where a field stands

@@ -6,12 +6,17 @@ use Rattle.std.proofs.lemmas.Bool.{cases_lt}
 use Rattle.std.proofs.lemmas.List.{get_or_append_left, length-append, take-append-le}
 use Rattle.std.proofs.Math.Seq.{get_or-append_seam, take-append-add}
 use Rattle.ball_model.specs.Input.{Limits, Network, Refusal, TooManyEdges, Fields, TooManyVertices, has_form, labels_of, fault_at, first_of, network_from}
-use Rattle.edgelist.specs.Edges.{AllBelow, edge_of, graph_of_edges}
-use Rattle.edgelist.specs.declared.edge.Edge.{Edge}
-use Rattle.edgelist.specs.Reading.{with_label, IsReadAs, AddsEdge, Exceeds, IsClean, AddsRecord, Stops, FaultIs, Refuses, IsRefusal}
-use Rattle.edgelist.specs.declared.read.EdgeError.{EdgeError}
-use Rattle.edgelist.specs.declared.read.EdgeError.TheVariants as refused
-use Rattle.edgelist.proofs.NetworkLemmas.{labels_of-one, labels_of-two, with_label-longer, below_more, read-one, read-two, edge-below, network-is}
+use Rattle.graph.specs.Edges.{AllBelow, edge_of, graph_of_edges}
+use Rattle.graph.specs.declared.edge.Edge.{Edge}
+use Rattle.graph.specs.Labels.{with_label}
+use Rattle.graph.specs.Making.{AddsEdge}
+use Rattle.edgelist.specs.Reading.{IsReadAs, Exceeds, IsClean, AddsRecord, Stops, FaultIs, Refuses, IsRefusal}
+use Rattle.edgelist.specs.declared.limits.EdgeError.{EdgeError}
+use Rattle.edgelist.specs.declared.limits.EdgeError.TheVariants as refused
+use Rattle.graph.proofs.LabelLemmas.{with_label-longer}
+use Rattle.graph.proofs.MakingLemmas.{below_more, edge-below}
+use Rattle.edgelist.proofs.NetworkLemmas.{labels_of-one, labels_of-two, read-one, read-two, network-is}
+use Rattle.graph.proofs.RangeLemmas.{first-none, first-some}
 
 abbrev Record : Type 0
 Record = List (List ℕ)
@@ -36,18 +41,6 @@ fault-none limits records r more lt form few =
     let off : nat_le limits.edges (length records) ≡ false = search (tests, arith) in
     let within : nat_lt limits.vertices (length (labels_of (records ++ r ∷ []))) ≡ false = search (tests, arith) in
     rw (off, get_or-append_seam records r more [], form, take-append-add records (r ∷ more) 1, within) refl
-
-pub first-none : {X : Type 0} (f : ℕ → Option X) (a n : ℕ) → ((k : ℕ) → k < a + n → f k ≡ None) → first_of (map f (range_with_len a n)) ≡ None
-first-none f a zero h = refl
-first-none f a (suc n) h = rw (h a (omega arith)) (first-none f (a + 1) n (λ k lt. h k (omega arith)))
-
-pub first-some : {X : Type 0} (f : ℕ → Option X) (x : X) (a n k : ℕ) → k < n → ((j : ℕ) → j < a + k → f j ≡ None) → f (a + k) ≡ Some x → first_of (map f (range_with_len a n)) ≡ Some x
-first-some f x a zero k lt h here = absurd (omega arith)
-first-some f x a (suc n) zero lt h here = let e : a + 0 ≡ a = omega arith in let at = rw e at here in rw at refl
-first-some f x a (suc n) (suc k) lt h here =
-    let e : a + suc k ≡ (a + 1) + k = omega arith in
-    let at = rw e at here in
-    rw (h a (omega arith)) (first-some f x (a + 1) n k (omega arith) (λ j less. h j (omega arith)) at)
 
 -- records with no fault are their network
 pub says-network : (limits : Limits) (records : List Record) (labels : List (List ℕ)) (edges : List Edge) → IsClean limits records → IsReadAs records labels edges →

@@ -4,14 +4,15 @@ use Rattle.std.specs.Prelude.{None, slice_set}
 use Rattle.std.proofs.lemmas.List.{append-nil}
 use Rattle.ball_model.specs.Graph.{Graph}
 use Rattle.ball_model.specs.Input.{IsPlain, Limits, Network, lines, network_from, records}
-use Rattle.edgelist.specs.Edges.{graph_of_edges}
+use Rattle.graph.specs.Edges.{graph_of_edges}
 use Rattle.edgelist.specs.Given.{IsGivenUnder}
 use Rattle.edgelist.specs.Pieces.{EndsLine, IsLeftOf, IsThrough}
-use Rattle.edgelist.specs.Reading.{Refuses, byte_of, limits_of, meaning_under, network_by}
-use Rattle.edgelist.specs.declared.edge.Edge.{Edge}
+use Rattle.graph.specs.Records.{byte_of}
+use Rattle.edgelist.specs.Reading.{Refuses, limits_of, meaning_under, network_by}
+use Rattle.graph.specs.declared.edge.Edge.{Edge}
 use Rattle.edgelist.specs.declared.pieces.EdgeReader.{EdgeReader}
-use Rattle.edgelist.specs.declared.read.Delimiter.{Delimiter}
-use Rattle.edgelist.specs.declared.read.EdgeError.{EdgeError}
+use Rattle.graph.specs.declared.delimiter.Delimiter.{Delimiter}
+use Rattle.edgelist.specs.declared.limits.EdgeError.{EdgeError}
 use Rattle.edgelist.proofs.PieceLemmas.{given-some, plain-front, plain-held, records-held, records-joined, through-network}
 
 -- no text has no records

@@ -8,14 +8,16 @@ use Rattle.std.proofs.lemmas.List.Folds.{list_any_at}
 use Rattle.std.proofs.lemmas.List.Elements.{All-head, All-tail, All-take, All-drop, All-from_get_or}
 use Rattle.std.proofs.lemmas.List.{length-take, length-drop, take-append-drop, get_or_default, get_or-set_same, get_or-set_other}
 use Rattle.std.proofs.lemmas.Bool.{eqb-true, eq-eqb}
-use Rattle.edgelist.specs.Guessing.{bytes_after, word_of, IsShort, IsWord, HasWord, StandsAt, IsGuess, AreGuesses, entry_word, blank_entry}
+use Rattle.graph.specs.Finding.{StandsAt}
+use Rattle.edgelist.specs.Guessing.{bytes_after, word_of, IsShort, IsWord, HasWord, IsGuess, AreGuesses, entry_word, blank_entry}
 use Rattle.csv.specs.Records.{field_at}
 use Rattle.edgelist.specs.declared.numbering.LabelGuess.{LabelGuess}
-use Rattle.edgelist.specs.declared.numbering.LabelWord.{LabelWord}
-use Rattle.edgelist.specs.Reading.{fields_with, with_label}
+use Rattle.edgelist.specs.declared.word.LabelWord.{LabelWord}
+use Rattle.graph.specs.Labels.{with_label}
+use Rattle.edgelist.specs.Reading.{fields_with}
 use Rattle.ball_model.proofs.BoolLemmas.{by_cases}
-use Rattle.edgelist.proofs.LabelLemmas.{text_same}
-use Rattle.edgelist.proofs.RangeLemmas.{copies-at}
+use Rattle.graph.proofs.LabelLemmas.{text_same}
+use Rattle.graph.proofs.RangeLemmas.{copies-at}
 
 abbrev IsByte : ℕ → Type 0
 IsByte b = b < 256

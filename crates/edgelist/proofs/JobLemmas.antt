@@ -4,10 +4,10 @@ use Rattle.std.specs.Prelude.{Option, None, Some, Ok, IfSome, IsOk}
 use Rattle.std.specs.Borrow.{Bor}
 use Rattle.ball_model.specs.Input.{IsPlain, Network}
 use Rattle.ball_model.specs.RunText.{Settings, counted_in, list_in, network_in}
-use Rattle.edgelist.specs.Counting.{IsListRefusal, RefusesList}
+use Rattle.graph.specs.Counting.{IsListRefusal, RefusesList}
 use Rattle.edgelist.specs.Job.{WherePlain}
-use Rattle.edgelist.specs.Records.{ForPlain}
-use Rattle.edgelist.specs.declared.counting.CountedError.{CountedError}
+use Rattle.graph.specs.Records.{ForPlain}
+use Rattle.graph.specs.declared.counting.CountedError.{CountedError}
 
 -- what is refused of a list, once there is a network
 pub refuses_list : (s : Settings) (told : Option (List ℕ)) (counted : Option (Bor (List ℕ))) (all : Network) (e : CountedError) → ForPlain told (λ text. network_in s text ≡ Ok all) →

@@ -3,11 +3,11 @@ use Rattle.std.proofs.Common.{◌≡◌, ℕ, ◌==◌, ◌&&◌, List, [], ◌�
 use Rattle.std.specs.Prelude.{IsPermutation}
 use Rattle.std.specs.List.{flat_map, list_any, range_with_len}
 use Rattle.std.proofs.lemmas.List.Sorted.{list_any-IsPermutation}
-use Rattle.edgelist.specs.Edges.{graph_of_edges, sources_of}
+use Rattle.graph.specs.Edges.{graph_of_edges, sources_of}
 use Rattle.edgelist.specs.Reading.{AreWithin, network_by}
-use Rattle.edgelist.specs.declared.edge.Edge.{Edge}
-use Rattle.edgelist.proofs.RangeLemmas.{filter_range-same}
-use Rattle.edgelist.proofs.SortLemmas.{below-same}
+use Rattle.graph.specs.declared.edge.Edge.{Edge}
+use Rattle.graph.proofs.RangeLemmas.{filter_range-same}
+use Rattle.graph.proofs.SortLemmas.{below-same}
 
 flat_map-same : (f g : ℕ → List (ℕ × ℕ)) (xs : List ℕ) → ((x : ℕ) → f x ≡ g x) → flat_map f xs ≡ flat_map g xs
 flat_map-same f g [] same = refl

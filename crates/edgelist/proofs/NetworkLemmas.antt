@@ -3,21 +3,23 @@ use Rattle.std.proofs.Common.{◌≡◌, ℕ, zero, suc, ◌+◌, ◌<◌, ◌�
 use Rattle.std.specs.List.{list_any, filter, flat_map, range_with_len}
 use Rattle.std.specs.Str.{bytes_eq}
 use Rattle.std.specs.Cmp.Lexicographic.{same_text}
-use Rattle.std.proofs.lemmas.List.{append-nil, append_assoc, get_or_append_left, length-append, map-append}
+use Rattle.std.proofs.lemmas.List.{append-nil, append_assoc, map-append}
 use Rattle.std.proofs.lemmas.List.Elements.{filter-append}
-use Rattle.std.proofs.lemmas.List.Folds.{list_any_at}
 use Rattle.std.proofs.lemmas.Grind.{flat_map-append}
 use Rattle.std.proofs.lemmas.Map.Views.{any-filter_same}
-use Rattle.std.proofs.lemmas.Bool.{not_from_true, not_from_false, eqb-true, eq-eqb}
+use Rattle.std.proofs.lemmas.Bool.{not_from_false, eqb-true, eq-eqb}
 use Rattle.std.proofs.Math.Bool.{and_comm}
 use Rattle.ball_model.specs.Input.{distinct, labels_of, leads, network_of}
 use Rattle.std.specs.Cmp.{both_ways}
-use Rattle.edgelist.specs.Edges.{AllBelow, edge_of, graph_of_edges}
-use Rattle.edgelist.specs.declared.edge.Edge.{Edge}
-use Rattle.edgelist.specs.Reading.{with_label, Link, link_in, links_in, link_of, IsReadAs, AddsEdge}
+use Rattle.graph.specs.Edges.{AllBelow, edge_of, graph_of_edges}
+use Rattle.graph.specs.declared.edge.Edge.{Edge}
+use Rattle.graph.specs.Labels.{with_label}
+use Rattle.graph.specs.Making.{AddsEdge}
+use Rattle.edgelist.specs.Reading.{Link, link_in, links_in, link_of, IsReadAs}
 use Rattle.ball_model.proofs.BoolLemmas.{by_cases}
-use Rattle.edgelist.proofs.LabelLemmas.{text_same}
-use Rattle.edgelist.proofs.RangeLemmas.{filter_range-same}
+use Rattle.graph.proofs.LabelLemmas.{text_same, with_label-at, with_label-longer, Apart, apart-labels, apart-at}
+use Rattle.graph.proofs.RangeLemmas.{filter_range-same}
+use Rattle.graph.proofs.MakingLemmas.{below_more, edge-below}
 
 -- a label that another one is not is found behind the filter or not, as before it
 any_kept : (x y : List ℕ) (ds : List (List ℕ)) → bytes_eq x y ≡ false → list_any (λ l. bytes_eq l y) (filter (λ z. not (bytes_eq x z)) ds) ≡ list_any (λ l. bytes_eq l y) ds
@@ -58,32 +60,9 @@ unfolding links_in
 links_push [] r = append-nil (link_in r)
 links_push (s ∷ rs) r = rw (links_push rs r) (sym (append_assoc (link_in s) (links_in rs) (link_in r)))
 
--- a label more leaves the others in their places
-kept_if : (b : Bool) (labels : List (List ℕ)) (y : List ℕ) (k : ℕ) → k < length labels → get_or (if b then labels else labels ++ y ∷ []) k [] ≡ get_or labels k []
-kept_if true labels y k lt = refl
-kept_if false labels y k lt = get_or_append_left labels (y ∷ []) [] k lt
-
-with_label-at : (labels : List (List ℕ)) (y : List ℕ) (k : ℕ) → k < length labels → get_or (with_label labels y) k [] ≡ get_or labels k []
-with_label-at labels y k lt = kept_if (list_any (λ l. bytes_eq l y) labels) labels y k lt
-
-longer_if : (b : Bool) (labels : List (List ℕ)) (y : List ℕ) → length labels ≤ length (if b then labels else labels ++ y ∷ [])
-longer_if true labels y = omega arith
-longer_if false labels y = omega (arith, length-append labels (y ∷ []))
-
-pub with_label-longer : (labels : List (List ℕ)) (y : List ℕ) → length labels ≤ length (with_label labels y)
-with_label-longer labels y = longer_if (list_any (λ l. bytes_eq l y) labels) labels y
-
 named_same : (old new : List (List ℕ)) (edges : List Edge) → ((k : ℕ) → k < length old → get_or new k [] ≡ get_or old k []) → AllBelow (length old) edges → map (link_of new) edges ≡ map (link_of old) edges
 named_same old new [] same below = refl
 named_same old new (e ∷ es) same below = rw (same e.target below.0.0, same e.source below.0.1, named_same old new es same below.1) refl
-
-pub below_more : (m n : ℕ) (edges : List Edge) → m ≤ n → AllBelow m edges → AllBelow n edges
-below_more m n [] le below = tt
-below_more m n (e ∷ es) le below = ((omega (arith, below.0.0), omega (arith, below.0.1)), below_more m n es le below.1)
-
-pub below_push : (n : ℕ) (edges : List Edge) (i j : ℕ) → i < n → j < n → AllBelow n edges → AllBelow n (edges ++ edge_of i j ∷ [])
-below_push n [] i j lo hi below = ((lo, hi), tt)
-below_push n (e ∷ es) i j lo hi below = (below.0, below_push n es i j lo hi below.1)
 
 abbrev link_to : List ℕ → List ℕ → Link
 link_to target source = record { target = target; source = source }
@@ -101,15 +80,6 @@ read-one records old new edges edges' a so is same =
       below = below_more (length old) (length new) edges (omega (arith, with_label-longer old a, ap length is)) so.below;
       edges_are = named_same old new edges (λ k lt. ap (λ (ls : List (List ℕ)). get_or ls k []) is ∙ with_label-at old a k lt) so.below ∙ so.edges_are ∙ sym (append-nil (links_in records)) ∙ sym (links_push records (a ∷ []));
     })
-
--- the ends of an added edge are labels
-pub edge-below : (old new : List (List ℕ)) (edges edges' : List Edge) (a b : List ℕ) → AddsEdge a b old edges new edges' → AllBelow (length old) edges → AllBelow (length new) edges'
-edge-below old new edges edges' a b adds below =
-    let mid = with_label old a in
-    let longer_mid : length old ≤ length mid = with_label-longer old a in
-    let longer_new : length mid ≤ length new = omega (arith, with_label-longer mid b, ap length adds.labels_are) in
-    subst (λ (ps : List Edge). AllBelow (length new) ps) (sym adds.edges_are)
-    (below_push (length new) edges adds.to adds.from adds.to_within (omega (arith, adds.from_within, longer_new)) (below_more (length old) (length new) edges (omega arith) below))
 
 -- a record of two labels
 pub read-two : (records : List (List (List ℕ))) (old new : List (List ℕ)) (edges edges' : List Edge) (a b : List ℕ) → IsReadAs records old edges → AddsEdge a b old edges new edges' →
@@ -133,59 +103,6 @@ read-two records old new edges edges' a b so adds =
           ∙ ap₂ (λ (xs ys : List Link). xs ++ ys) (named_same old new edges keep so.below ∙ so.edges_are) (ap (λ (l : Link). l ∷ []) here)
           ∙ sym (links_push records (a ∷ b ∷ []));
     }
-
--- labels that are all different
-unfoldable pub Apart : List (List ℕ) → Type 0
-Apart [] = Unit {0}
-Apart (x ∷ xs) = (list_any (λ l. bytes_eq x l) xs ≡ false) × Apart xs
-
-none_kept : (p q : List ℕ → Bool) (xs : List (List ℕ)) → list_any p xs ≡ false → list_any p (filter q xs) ≡ false
-none_kept p q [] e = refl
-none_kept p q (x ∷ xs) e =
-    by_cases (p x) _
-    (λ t. absurd (let bad = rw t at e in cc))
-    (λ off.
-    let rest = rw off at e in
-    by_cases (q x) _
-    (λ t. rw (t, off) (none_kept p q xs rest))
-    (λ f. rw f (none_kept p q xs rest)))
-
-apart_kept : (q : List ℕ → Bool) (xs : List (List ℕ)) → Apart xs → Apart (filter q xs)
-unfolding Apart
-apart_kept q [] h = tt
-apart_kept q (x ∷ xs) h =
-    by_cases (q x) _
-    (λ t. rw t (none_kept (λ l. bytes_eq x l) q xs h.0, apart_kept q xs h.1))
-    (λ f. rw f (apart_kept q xs h.1))
-
-others : (p : List ℕ → Bool) (xs : List (List ℕ)) → list_any p (filter (λ y. not (p y)) xs) ≡ false
-others p xs = any-filter_same p (λ y. not (p y)) false (λ k on. not_from_true (p k) on) xs
-
-pub apart-distinct : (xs : List (List ℕ)) → Apart (distinct xs)
-unfolding distinct Apart
-apart-distinct [] = tt
-apart-distinct (x ∷ xs) = (others (λ y. bytes_eq x y) (distinct xs), apart_kept (λ y. not (bytes_eq x y)) (distinct xs) (apart-distinct xs))
-
-pub apart-labels : (records : List (List (List ℕ))) → Apart (labels_of records)
-unfolding labels_of
-apart-labels records = apart-distinct (flat_map (λ s. s) records)
-
-none_at : (p : List ℕ → Bool) (xs : List (List ℕ)) (i : ℕ) → list_any p xs ≡ false → i < length xs → p (get_or xs i []) ≡ false
-none_at p xs i e lt =
-    by_cases (p (get_or xs i [])) _
-    (λ t. absurd (let bad : true ≡ false = sym (list_any_at p xs i [] lt t) ∙ e in cc))
-    (λ f. f)
-
--- equal labels stand at one place
-pub apart-at : (xs : List (List ℕ)) (i j : ℕ) → Apart xs → i < length xs → j < length xs → get_or xs i [] ≡ get_or xs j [] → i ≡ j
-unfolding Apart
-apart-at [] i j h lo hi e = absurd (omega arith)
-apart-at (x ∷ xs) zero zero h lo hi e = refl
-apart-at (x ∷ xs) zero (suc j) h lo hi e =
-    absurd (let bad : true ≡ false = sym (text_same x) ∙ ap (λ (y : List ℕ). bytes_eq x y) e ∙ none_at (λ l. bytes_eq x l) xs j h.0 (omega arith) in cc)
-apart-at (x ∷ xs) (suc i) zero h lo hi e =
-    absurd (let bad : true ≡ false = sym (text_same x) ∙ ap (λ (y : List ℕ). bytes_eq x y) (sym e) ∙ none_at (λ l. bytes_eq x l) xs i h.0 (omega arith) in cc)
-apart-at (x ∷ xs) (suc i) (suc j) h lo hi e = ap suc (apart-at xs i j h.1 (omega arith) (omega arith) e)
 
 pub label-eq : (labels : List (List ℕ)) (i j : ℕ) → Apart labels → i < length labels → j < length labels → bytes_eq (get_or labels i []) (get_or labels j []) ≡ (i == j)
 label-eq labels i j h lo hi =

@@ -8,12 +8,13 @@ use Rattle.std.proofs.lemmas.List.Elements.{filter-append}
 use Rattle.csv.specs.declared.reader.Reader.{Reader}
 use Rattle.ball_model.specs.Input.{HasLfs, IsPlain, Limits, Network, Refusal, StartsWithLf, fields, has_mark, is_record, lines, network_from, records, without_mark}
 use Rattle.edgelist.specs.Pieces.{AddsRecords, EndsLine, IsLeftOf, IsPartRead, IsThrough, ReadsOn}
-use Rattle.edgelist.specs.Records.{FindsNone, IsLeft, ReadsOne, ReadsRecords, StopsAtEnd, config, is_row, rows}
+use Rattle.graph.specs.Records.{FindsNone, IsLeft, ReadsOne, config, is_row, rows}
+use Rattle.edgelist.specs.Records.{ReadsRecords, StopsAtEnd}
 use Rattle.edgelist.specs.Reading.{AddsRecord, EndsAt, Refuses, Stops, network_by}
-use Rattle.edgelist.specs.declared.edge.Edge.{Edge}
-use Rattle.edgelist.specs.declared.read.EdgeError.{EdgeError}
+use Rattle.graph.specs.declared.edge.Edge.{Edge}
+use Rattle.edgelist.specs.declared.limits.EdgeError.{EdgeError}
 use Rattle.edgelist.proofs.FaultLemmas.{clean-more, clean-none, refuses-none, says-network, says-refusal}
-use Rattle.edgelist.proofs.LineLemmas.{line_records, lines-some}
+use Rattle.graph.proofs.LineLemmas.{line_records, lines-some}
 use Rattle.edgelist.proofs.NetworkLemmas.{read-none}
 
 abbrev Records : Type 0

@@ -1,6 +1,6 @@
 -- An edge list whose lines are read piece by piece.
-use Rattle.std.proofs.Common.{◌≡◌, ◌∙◌, ℕ, zero, suc, ◌+◌, ◌-◌, ◌<◌, ◌≤◌, List, [], ◌∷◌, ◌++◌, length, take, drop, get_or, set, refl, ap, arith, sym, subst, inl, inr, Some, None}
-use Rattle.std.specs.Prelude.{Option, slice_range}
+use Rattle.std.proofs.Common.{◌≡◌, ◌≢◌, ◌∙◌, ℕ, zero, suc, ◌+◌, ◌-◌, ◌<◌, ◌≤◌, List, [], ◌∷◌, ◌++◌, length, take, drop, get_or, set, refl, ap, arith, sym, subst, inl, inr, Some, None}
+use Rattle.std.specs.Prelude.{Option, Result, Ok, Err, IfErr, IfOk, IsOk, OnErr, OnOk, slice_range}
 use Rattle.std.specs.List.{All, flat_map}
 use Rattle.std.specs.Io.KnownBytes.{Consumes, IsAtEnd}
 use Rattle.std.proofs.lemmas.List.{append-nil, append_assoc, drop-take, length-append, length-take-le, take-append-drop, take_all, take_more, take_more_set}
@@ -10,15 +10,20 @@ use Rattle.std.proofs.Math.Seq.{drop-append_seam, take-append-add}
 use Rattle.ball_model.specs.Input.{IsPlain, Limits, network_from, records}
 use Rattle.edgelist.specs.Pieces.{EndsLine, Fills, IsDone, IsLeftOf, IsOn, IsThrough, piece_of}
 use Rattle.edgelist.specs.Reading.{Refuses}
-use Rattle.edgelist.specs.Rounds.{AreOn, AreSameTexts, IsSameText, has_no_lines, has_plain_lines, records_of}
-use Rattle.edgelist.specs.declared.edge.Edge.{Edge}
+use Rattle.edgelist.specs.Rounds.{AreBegun, AreOn, AreSameTexts, IsBegun, IsSameText, has_no_lines, has_plain_lines, records_of}
+use Rattle.graph.specs.declared.edge.Edge.{Edge}
+use Rattle.edgelist.specs.declared.piece.Gives.{Gives}
+use Rattle.edgelist.specs.declared.piece.Gives.TheVariants as gave
 use Rattle.edgelist.specs.declared.piece.Piece.{Piece}
-use Rattle.edgelist.specs.declared.read.EdgeError.{EdgeError}
+use Rattle.edgelist.specs.declared.limits.EdgeError.{EdgeError}
 use Rattle.edgelist.proofs.GivenLemmas.{records-none}
 use Rattle.edgelist.proofs.PieceLemmas.{plain-front, plain-held, records-held, through-none}
 
 abbrev Records : Type 0
 Records = List (List (List ℕ))
+
+abbrev Filled : Type 0
+Filled = Result Gives EdgeError
 
 -- ---- whole lines at the front, and what stands behind them
 
@@ -151,6 +156,71 @@ on-none d text done lines left piece none on =
 pub plain-of-none : (piece : Piece) → has_no_lines piece → has_plain_lines piece
 plain-of-none piece none = subst IsPlain (sym none) plain-none
 
+-- ---- a piece more that was filled, or not
+
+pub begun-none : (d : ℕ) (text : List ℕ) (done : Records) (piece : Piece) → has_no_lines piece → IsBegun d text done → IsBegun d text (done ++ records_of piece)
+begun-none d text done piece none begun =
+    subst (λ (rs : Records). IsBegun d text rs)
+    (sym (append-nil done) ∙ ap (λ (rs : Records). done ++ rs) (sym (records-of-none piece none))) begun
+
+pub begun-on : (d : ℕ) (text : List ℕ) (done : Records) (lines : List ℕ) (left : Option (List ℕ)) → IsOn d text done lines left → IsBegun d text done
+begun-on d text done lines left on = record { more = records d (lines ++ on.rest); all = on.all }
+
+pub begun-filled : (r : Filled) (d : ℕ) (text : List ℕ) (done : Records) (piece : Piece) (lines : List ℕ) (left : Option (List ℕ)) → OnOk r (IsOn d text (done ++ records_of piece) lines left) → OnErr r (has_no_lines piece) →
+    IsBegun d text done → IsBegun d text (done ++ records_of piece)
+begun-filled (Ok gives) d text done piece lines left on none begun = begun-on d text (done ++ records_of piece) lines left on
+begun-filled (Err e) d text done piece lines left on none begun = begun-none d text done piece none begun
+
+pub plain-filled : (r : Filled) (piece : Piece) → OnOk r (has_plain_lines piece) → OnErr r (has_no_lines piece) → has_plain_lines piece
+plain-filled (Ok gives) piece plain none = plain
+plain-filled (Err e) piece plain none = plain-of-none piece none
+
+pub on-cleared : (r : Filled) (d : ℕ) (text : List ℕ) (done : Records) (lines : List ℕ) (left : Option (List ℕ)) (piece : Piece) → has_no_lines piece → OnOk r (IsOn d text done lines left) → OnOk r (IsOn d text (done ++ records_of piece) lines left)
+on-cleared (Ok gives) d text done lines left piece none on = on-none d text done lines left piece none on
+on-cleared (Err e) d text done lines left piece none on = tt
+
+-- ---- rounds that are the last, and others
+
+pub on-going : (r : Filled) (P : Type 0) → OnOk r P → IsOk r → P
+on-going (Ok gives) P p ok = p
+on-going (Err e) P p ok = absurd (cc)
+
+pub on-ended : (r : Filled) (P D : Type 0) → OnOk r P → IfOk r (λ gives. gives ≡ gave.Nothing → D) → IfOk r (λ gives. gives ≡ gave.Nothing) → IsOk r → P × D
+on-ended (Ok gives) P D p end last ok = (p, end last)
+on-ended (Err e) P D p end last ok = absurd (cc)
+
+pub on-weaker : (r : Filled) (P Q : Type 0) → OnOk r P → (P → Q) → OnOk r Q
+on-weaker (Ok gives) P Q p f = f p
+on-weaker (Err e) P Q p f = tt
+
+-- ---- the last pieces, and why no more could be filled
+
+-- the refusal of a record is told, then why no more could be filled, and else what was added
+pub record IsToldLast (added result : Result ℕ EdgeError) (filled : Filled) : Type 0 where
+  pub adds : IfErr added (λ e. result ≡ Err e)
+  pub fills : IfOk added (λ _. IfErr filled (λ e. result ≡ Err e))
+  pub goes : IfOk added (λ n. IfOk filled (λ _. result ≡ Ok n))
+
+pub last-if : (added result : Result ℕ EdgeError) (filled : Filled) (P : ℕ → Type 0) → IsToldLast added result filled → IfOk added P → IfOk result P
+last-if (Ok n) result (Ok gives) P told p = rw told.goes p
+last-if (Ok n) result (Err e) P told p = rw told.fills tt
+last-if (Err e) result filled P told p = rw told.adds tt
+
+pub last-filled : (added result : Result ℕ EdgeError) (filled : Filled) → IsToldLast added result filled → OnOk result (IsOk filled)
+last-filled (Ok n) result (Ok gives) told = rw told.goes refl
+last-filled (Ok n) result (Err e) told = rw told.fills tt
+last-filled (Err e) result filled told = rw told.adds tt
+
+pub last-err : (added result : Result ℕ EdgeError) (filled : Filled) (P : EdgeError → Type 0) → IsToldLast added result filled → IfErr added P → IfErr filled P → IfErr result P
+last-err (Ok n) result (Ok gives) P told p q = rw told.goes tt
+last-err (Ok n) result (Err e) P told p q = rw told.fills q
+last-err (Err e) result filled P told p q = rw told.adds p
+
+-- a fault that adding never tells comes only once all was added
+pub last-added : (added result : Result ℕ EdgeError) (filled : Filled) (e : EdgeError) (P : ℕ → Type 0) (Q : Type 0) → IsToldLast added result filled → added ≢ Err e → result ≡ Err e → IfOk added P → ((n : ℕ) → P n → Q) → Q
+last-added (Ok n) result filled e P Q told never is p f = f n p
+last-added (Err x) result filled e P Q told never is p f = absurd (never (sym told.adds ∙ is))
+
 -- ---- pieces one after another
 
 pub pieces-more : (xs : List Piece) (i : ℕ) (x : Piece) (done : Records) → i < length xs → x ≡ get_or xs i x →
@@ -207,13 +277,22 @@ on-turn limits d text n m labels labels' edges edges' pieces coming coming' held
 }
 
 -- what is said of the pieces, whatever follows, is said of the text
-pub on-refused : (limits : Limits) (d : ℕ) (text : List ℕ) (before : Records) (pieces : List Piece) (more : Records) (held : List ℕ) (left : Option (List ℕ)) (e : EdgeError) (on : IsOn d text ((before ++ flat_map records_of pieces) ++ more) held left) →
+pub begun-refused : (limits : Limits) (d : ℕ) (text : List ℕ) (before : Records) (pieces : List Piece) (more : Records) (e : EdgeError) (begun : IsBegun d text ((before ++ flat_map records_of pieces) ++ more)) →
     ((rest : Records) → Refuses (network_from limits (before ++ (flat_map records_of pieces ++ rest))) e) → Refuses (network_from limits (records d text)) e
-on-refused limits d text before pieces more held left e on told =
-    let rest = records d (held ++ on.rest) in
+begun-refused limits d text before pieces more e begun told =
     subst (λ (rs : Records). Refuses (network_from limits rs) e)
-    (sym (on.all ∙ append_assoc (before ++ flat_map records_of pieces) more rest ∙ append_assoc before (flat_map records_of pieces) (more ++ rest)))
-    (told (more ++ rest))
+    (sym (begun.all ∙ append_assoc (before ++ flat_map records_of pieces) more begun.more ∙ append_assoc before (flat_map records_of pieces) (more ++ begun.more)))
+    (told (more ++ begun.more))
+
+pub begun-turn : (limits : Limits) (d : ℕ) (text : List ℕ) (m : ℕ) (labels : List (List ℕ)) (edges : List Edge) (before : Records) (pieces coming coming' : List Piece) →
+    IsBegun d text ((before ++ flat_map records_of pieces) ++ flat_map records_of coming) → All has_plain_lines coming → AreSameTexts coming coming' → IsThrough limits m (before ++ flat_map records_of pieces) labels edges →
+    AreBegun limits d text m labels edges coming'
+begun-turn limits d text m labels edges before pieces coming coming' begun plain same through = record {
+  before = before ++ flat_map records_of pieces;
+  through = through;
+  plain = same.plain plain;
+  begun = subst (λ (rs : Records). IsBegun d text ((before ++ flat_map records_of pieces) ++ rs)) (sym same.records_are) begun;
+}
 
 pub on-done : (limits : Limits) (d : ℕ) (text : List ℕ) (n : ℕ) (labels : List (List ℕ)) (edges : List Edge) (pieces : List Piece) (held : List ℕ) (left : Option (List ℕ)) (on : AreOn limits d text n labels edges pieces held left) → IsDone held left →
     records d text ≡ on.before ++ flat_map records_of pieces

@@ -7,9 +7,10 @@ use Rattle.std.proofs.lemmas.List.Elements.{All-get_or, All-push}
 use Rattle.csv.specs.declared.reader.Reader.{Reader}
 use Rattle.ball_model.specs.Input.{Limits}
 use Rattle.edgelist.specs.Pieces.{AddsRecords, IsPartRead}
-use Rattle.edgelist.specs.Records.{HasForm, ReadsNone, ReadsNoneAfter, ReadsOne, ReadsOneAfter, ReadsRecords}
+use Rattle.graph.specs.Records.{ReadsNone, ReadsOne}
+use Rattle.edgelist.specs.Records.{HasForm, ReadsNoneAfter, ReadsOneAfter, ReadsRecords}
 use Rattle.edgelist.specs.Reading.{AddsRecord}
-use Rattle.edgelist.specs.declared.edge.Edge.{Edge}
+use Rattle.graph.specs.declared.edge.Edge.{Edge}
 use Rattle.edgelist.proofs.PieceLemmas.{adds-more, reads-more, part-read-all}
 
 abbrev Fields : Type 0

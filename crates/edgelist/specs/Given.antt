@@ -2,11 +2,12 @@
 use Rattle.std.specs.Prelude.{◌≡◌, ℕ, List, ◌++◌, None, Some}
 use Rattle.ball_model.specs.Input.{IsPlain, Limits, in_force, in_force_large, records}
 use Rattle.edgelist.specs.Pieces.{EndsLine, IsLeftOf, IsThrough}
-use Rattle.edgelist.specs.Reading.{byte_of, limits_of}
+use Rattle.graph.specs.Records.{byte_of}
+use Rattle.edgelist.specs.Reading.{limits_of}
 use Rattle.edgelist.specs.declared.pieces.EdgeReader.{EdgeReader}
-use Rattle.edgelist.specs.declared.read.Delimiter.{Delimiter}
-use Rattle.edgelist.specs.declared.read.EdgeError.{EdgeError}
-use Rattle.edgelist.specs.declared.read.EdgeLimits.{EdgeLimits}
+use Rattle.graph.specs.declared.delimiter.Delimiter.{Delimiter}
+use Rattle.edgelist.specs.declared.limits.EdgeError.{EdgeError}
+use Rattle.edgelist.specs.declared.limits.EdgeLimits.{EdgeLimits}
 
 -- under limits that are in force the reader was given the text, of which whole lines were read and the rest is held
 pub record IsGivenUnder (limits : Limits) (delimiter : Delimiter) (text : List ℕ)

@@ -2,8 +2,9 @@
 use Rattle.std.specs.Prelude.{◌≡◌, ℕ, ◌+◌, ◌*◌, ◌<◌, ◌≤◌, List, [], ◌∷◌, length, take, drop, slice_index, slice_index_or, IfSome}
 use Rattle.csv.specs.Records.{field_at}
 use Rattle.edgelist.specs.declared.numbering.LabelGuess.{LabelGuess}
-use Rattle.edgelist.specs.declared.numbering.LabelWord.{LabelWord}
-use Rattle.edgelist.specs.declared.numbering.TheConstants.{FIRST, SHORT}
+use Rattle.edgelist.specs.declared.word.LabelWord.{LabelWord}
+use Rattle.edgelist.specs.declared.word.TheConstants.{FIRST, SHORT}
+use Rattle.graph.specs.Finding.{StandsAt}
 
 -- more bytes after those of a number, which are its digits to the base 256
 unfoldable pub bytes_after : ℕ → List ℕ → ℕ
@@ -29,11 +30,6 @@ IsWord label word = IsShort label → word ≡ word_of label
 -- the word of a field, if it is there and short
 abbrev pub HasWord : List (List ℕ) → ℕ → LabelWord → Type 0
 HasWord fields i word = IfSome (field_at fields i) (λ label. IsWord label word)
-
--- this is the number of the label: it is there among the others
-pub record StandsAt (labels : List (List ℕ)) (label : List ℕ) (i : ℕ) : Type 0 where
-  pub within : i < length labels
-  pub is : slice_index_or labels i [] ≡ label
 
 -- the word of an entry
 abbrev pub entry_word : LabelGuess → LabelWord

@@ -1,10 +1,12 @@
 -- What is asked of a job, and what the refusals of its edge list and of its list of counted vertices say.
-use Rattle.std.specs.Prelude.{ℕ, List, Option, IfSome, IsOk}
+use Rattle.std.specs.Prelude.{◌≡◌, ℕ, List, Ok, Option, IfSome, IsOk}
 use Rattle.std.specs.Borrow.{Bor}
+use Rattle.ball_model.specs.Input.{Network}
 use Rattle.ball_model.specs.RunText.{ArePlain, Numbers, Settings, list_in, network_in}
-use Rattle.edgelist.specs.Counting.{IsListRefusal}
-use Rattle.edgelist.specs.Planning.{is_corrected, numbers_with}
-use Rattle.edgelist.specs.Reading.{Refuses, byte_of}
+use Rattle.graph.specs.Counting.{IsListRefusal}
+use Rattle.graph.specs.Planning.{is_corrected, numbers_with}
+use Rattle.graph.specs.Records.{byte_of}
+use Rattle.edgelist.specs.Reading.{Refuses}
 use Rattle.edgelist.specs.declared.job.JobOptions.{JobOptions}
 use Rattle.edgelist.specs.declared.job.NetworkError.{NetworkError}
 use Rattle.edgelist.specs.declared.job.NetworkError.TheVariants as fault
@@ -34,3 +36,11 @@ RefusesRead s input list (fault.Counted e) = IsListRefusal s input list e
 abbrev pub RefusesEdges : Settings → List ℕ → NetworkError → Type 0
 RefusesEdges s input (fault.Edges e) = Refuses (network_in s input) e
 RefusesEdges s input (fault.Counted e) = IsOk (network_in s input)
+
+-- the labels, the vertices and the edges are those of the edge list, whichever vertices are counted
+pub record HasEdgesOf (s : Settings) (input : List ℕ) (network : Network) : Type 0 where
+  pub all : Network
+  pub read : network_in s input ≡ Ok all
+  pub labels : network.labels ≡ all.labels
+  pub vertices : network.graph.vertices ≡ all.graph.vertices
+  pub edges : network.graph.edges ≡ all.graph.edges

@@ -1,17 +1,6 @@
-pub mod Lists
-pub mod Links
-pub mod Order
-pub mod Edges
-pub mod Labels
 pub mod Guessing
-pub mod Finding
 pub mod Records
 pub mod Reading
-pub mod Codes
-pub mod Counting
-pub mod Planning
-pub mod Laws
-pub mod Feeding
 pub mod Pieces
 pub mod Given
 pub mod Cutting

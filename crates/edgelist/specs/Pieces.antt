@@ -2,11 +2,12 @@
 use Rattle.std.specs.Prelude.{◌≡◌, ◌≢◌, ℕ, ◌+◌, ◌-◌, Bool, true, false, List, [], ◌∷◌, ◌++◌, Option, Some, Result, IfOk, IfErr, length, slice_range, ◌⊎◌}
 use Rattle.std.specs.Io.KnownBytes.{Consumes, IsAtEnd}
 use Rattle.csv.specs.declared.reader.Reader.{Reader}
-use Rattle.edgelist.specs.Records.{IsLeft, StopsAtEnd}
+use Rattle.graph.specs.Records.{IsLeft}
+use Rattle.edgelist.specs.Records.{StopsAtEnd}
 use Rattle.ball_model.specs.Input.{IsPlain, Limits, network_from, records}
 use Rattle.edgelist.specs.Reading.{AreWithin, EndsAt, IsClean, IsReadAs, IsRefusal, Refuses}
-use Rattle.edgelist.specs.declared.edge.Edge.{Edge}
-use Rattle.edgelist.specs.declared.read.EdgeError.{EdgeError}
+use Rattle.graph.specs.declared.edge.Edge.{Edge}
+use Rattle.edgelist.specs.declared.limits.EdgeError.{EdgeError}
 
 -- so many records were read: the labels and edges are theirs, and no check fails at any of them
 pub record IsThrough (limits : Limits) (number : ℕ) (records : List (List (List ℕ)))

@@ -1,23 +1,15 @@
 -- What is made of the records that were read so far.
 use Rattle.std.specs.Prelude.{◌≡◌, ⊤, ℕ, ◌+◌, ◌-◌, ◌^◌, ◌<◌, ◌≤◌, Bool, true, false, List, [], ◌∷◌, ◌++◌, map, length, slice_index_or, if◌then◌else◌, Option, None, Some, Result, Ok, Err, IfErr, OnOk}
-use Rattle.std.specs.List.{list_any}
-use Rattle.std.specs.Str.{bytes_eq}
 use Rattle.ball_model.specs.Input.{Network, Limits, Refusal, TooManyEdges, Fields, TooManyVertices, fault_at, labels_of, records, network_from, input_of, large_input_of}
 use Rattle.csv.specs.declared.reader.Reader.{Reader}
-use Rattle.edgelist.specs.Records.{IsLeft, StopsAtEnd}
-use Rattle.edgelist.specs.Edges.{AllBelow, edge_of, graph_of_edges}
-use Rattle.edgelist.specs.declared.edge.Edge.{Edge}
-use Rattle.edgelist.specs.declared.read.EdgeError.{EdgeError}
-use Rattle.edgelist.specs.declared.read.EdgeError.TheVariants as refused
-use Rattle.edgelist.specs.declared.read.EdgeLimits.{EdgeLimits}
-use Rattle.edgelist.specs.declared.read.Delimiter.{Delimiter}
-use Rattle.edgelist.specs.declared.read.Delimiter.TheVariants as delimiter
-
--- the byte between fields
-abbrev pub byte_of : Delimiter → ℕ
-byte_of delimiter.Tab = 9
-byte_of delimiter.Comma = 44
-byte_of delimiter.Space = 32
+use Rattle.graph.specs.Records.{IsLeft, byte_of}
+use Rattle.edgelist.specs.Records.{StopsAtEnd}
+use Rattle.graph.specs.Edges.{AllBelow, graph_of_edges}
+use Rattle.graph.specs.declared.edge.Edge.{Edge}
+use Rattle.edgelist.specs.declared.limits.EdgeError.{EdgeError}
+use Rattle.edgelist.specs.declared.limits.EdgeError.TheVariants as refused
+use Rattle.edgelist.specs.declared.limits.EdgeLimits.{EdgeLimits}
+use Rattle.graph.specs.declared.delimiter.Delimiter.{Delimiter}
 
 abbrev pub limits_of : EdgeLimits → Limits
 limits_of limits = record { vertices = limits.vertices; edges = limits.edges }
@@ -78,14 +70,6 @@ abbrev pub fields_with : List ℕ → Option (List ℕ) → List (List ℕ)
 fields_with source None = source ∷ []
 fields_with source (Some target) = source ∷ target ∷ []
 
--- whether the label is one of these
-abbrev pub has_label : List (List ℕ) → List ℕ → Bool
-has_label labels l = list_any (λ k. bytes_eq k l) labels
-
--- the labels with this one
-abbrev pub with_label : List (List ℕ) → List ℕ → List (List ℕ)
-with_label labels l = if has_label labels l then labels else labels ++ l ∷ []
-
 -- what a record of two fields says: it leads to the one label from the other
 pub record Link : Type 0 where
   pub target : List ℕ
@@ -121,18 +105,6 @@ pub record AreWithin (vertices number : ℕ) (labels : List (List ℕ))
   pub below : AllBelow (length labels) edges
   pub few_labels : length labels ≤ vertices
   pub few_edges : length edges ≤ number
-
--- an edge was added: to the place of the second among all labels, from that of the first
-pub record AddsEdge (source target : List ℕ) (labels : List (List ℕ)) (edges : List Edge)
-    (labels' : List (List ℕ)) (edges' : List Edge) : Type 0 where
-  pub from : ℕ
-  pub to : ℕ
-  pub labels_are : labels' ≡ with_label (with_label labels source) target
-  pub from_within : from < length (with_label labels source)
-  pub from_is : slice_index_or (with_label labels source) from [] ≡ source
-  pub to_within : to < length labels'
-  pub to_is : slice_index_or labels' to [] ≡ target
-  pub edges_are : edges' ≡ edges ++ edge_of to from ∷ []
 
 -- there are more labels than the limit, or memory was refused
 abbrev pub Exceeds : ℕ → List (List ℕ) → EdgeError → Type 0

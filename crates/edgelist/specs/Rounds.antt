@@ -3,8 +3,8 @@ use Rattle.std.specs.Prelude.{◌≡◌, ℕ, List, [], ◌++◌, Option}
 use Rattle.std.specs.List.{All, flat_map}
 use Rattle.ball_model.specs.Input.{IsPlain, Limits, records}
 use Rattle.edgelist.specs.Pieces.{IsOn, IsThrough}
-use Rattle.edgelist.specs.Reading.{byte_of}
-use Rattle.edgelist.specs.declared.edge.Edge.{Edge}
+use Rattle.graph.specs.Records.{byte_of}
+use Rattle.graph.specs.declared.edge.Edge.{Edge}
 use Rattle.edgelist.specs.declared.piece.Piece.{Piece}
 
 -- the records of a piece's lines
@@ -35,3 +35,16 @@ pub record AreOn (limits : Limits) (d : ℕ) (text : List ℕ) (number : ℕ)
   pub through : IsThrough limits number before labels edges
   pub plain : All has_plain_lines pieces
   pub on : IsOn d text (before ++ flat_map records_of pieces) lines left
+
+-- the records of a text begin with these
+pub record IsBegun (d : ℕ) (text : List ℕ) (done : List (List (List ℕ))) : Type 0 where
+  pub more : List (List (List ℕ))
+  pub all : records d text ≡ done ++ more
+
+-- the first records of a text were read, and those of the pieces follow
+pub record AreBegun (limits : Limits) (d : ℕ) (text : List ℕ) (number : ℕ)
+    (labels : List (List ℕ)) (edges : List Edge) (pieces : List Piece) : Type 0 where
+  pub before : List (List (List ℕ))
+  pub through : IsThrough limits number before labels edges
+  pub plain : All has_plain_lines pieces
+  pub begun : IsBegun d text (before ++ flat_map records_of pieces)

@@ -7,11 +7,12 @@ ghost use Rattle.ball_model.specs.Input.{records};
 ghost use Rattle.edgelist.specs.Cutting.{Extends, IsCut, cut_fields, field_or_none};
 ghost use Rattle.edgelist.specs.Guessing.{HasWord};
 ghost use Rattle.edgelist.specs.Reading.{fields_with};
-ghost use Rattle.edgelist.specs.Records.{HasForm, IsLeft};
+ghost use Rattle.graph.specs.Records.{IsLeft};
+ghost use Rattle.edgelist.specs.Records.{HasForm};
 
-use crate::numbering::LabelWord;
-use crate::read::MOST_RECORDS;
+use crate::limits::MOST_RECORDS;
 use crate::row::Row;
+use crate::word::LabelWord;
 use csv::Reader;
 use std::alloc::Global;
 use std::io::Read;

@@ -8,24 +8,22 @@ ghost use Rattle.ball_model.specs.PlanValue.{plan_within};
 ghost use Rattle.ball_model.specs.RunText.{AreRead, counted_in, list_in, network_in, plan_asked};
 ghost use Rattle.ball_model.specs.RunText.{run_limits};
 ghost use Rattle.ball_model.specs.Streams.{Rises};
-ghost use Rattle.edgelist.specs.Counting.{RefusesList};
+ghost use Rattle.graph.specs.Counting.{RefusesList};
 ghost use Rattle.edgelist.specs.Given.{IsGivenUnder};
-ghost use Rattle.edgelist.specs.Job.{RefusesEdges, RefusesRead, WherePlain, numbers_asked, settings_of};
-ghost use Rattle.edgelist.specs.Planning.{signed};
-ghost use Rattle.edgelist.specs.Reading.{CountsOne, Refuses, byte_of, limits_of};
-ghost use Rattle.edgelist.specs.Records.{ForPlain};
+ghost use Rattle.edgelist.specs.Job.{HasEdgesOf, RefusesEdges, RefusesRead, WherePlain, numbers_asked};
+ghost use Rattle.edgelist.specs.Job.{settings_of};
+ghost use Rattle.graph.specs.Planning.{signed};
+ghost use Rattle.graph.specs.Records.{byte_of, ForPlain};
+ghost use Rattle.edgelist.specs.Reading.{CountsOne, Refuses, limits_of};
 
-use crate::counting::CountedError;
-use crate::graph::Graph;
+use crate::limits::{EdgeError, EdgeLimits, EdgeList, LARGE_LIMITS, LIMITS};
 use crate::pieces::EdgeReader;
-use crate::read::{
-    Delimiter, EdgeError, EdgeLimits, EdgeList, LARGE_LIMITS, LIMITS, read_edge_list,
-    read_large_edge_list,
-};
+use crate::read::{read_edge_list, read_large_edge_list};
+use crate::reading::Sequential;
 use crate::rounds::{PIECE, Rounds};
-use crate::sequential::Sequential;
 use crate::watch::Watch;
 use ball_model::{CountedRead, Estimate, Plan, PlanError};
+use graph::{CountedError, Delimiter, Graph};
 use std::alloc::{AllocGlobal, Global};
 use std::hash::RandomState;
 use std::thread::{Threads, available_parallelism};
@@ -151,7 +149,8 @@ impl JobOptions {
     /// tells the watch how many there are so far; the others cut lines into fields.
     ///
     /// Several threads ask for up to two rounds of pieces, some MiB, beyond the record that is refused, and the refusal
-    /// waits for them. If a call of the reader fails there, `Read` is answered. A line is held whole, a comment too.
+    /// waits for them. If a call of the reader fails there, `Read` is answered; if memory is refused for a piece there, the
+    /// record's refusal is. A line is held whole, a comment too.
     pub fn read_edges_by<R: AllocGlobal + Threads + Sync, W: Watch, S: CountedRead>(
         &self,
         rt: &R,
@@ -232,6 +231,8 @@ impl JobOptions {
             (λ input list. IfErr result (RefusesRead (settings_of self.now) input list)) }
         ensures edges { ForPlain (R.remaining reader.old) (λ input.
             OnOk result (IsOk (network_in (settings_of self.now) input))) }
+        ensures network { ForPlain (R.remaining reader.old) (λ input. IfOk result (λ read.
+            HasEdgesOf (settings_of self.now) input read.graph)) }
         ensures of_edges { ForPlain (R.remaining reader.old) (λ input.
             IfErr result (RefusesEdges (settings_of self.now) input)) }
         ensures read { result ≡ Err (NetworkError.Edges EdgeError.Read) →
@@ -262,6 +263,8 @@ impl JobOptions {
             (λ input list. IfErr result (RefusesRead (settings_of self.now) input list)) }
         ensures edges { ForPlain (S.remaining reader.old) (λ input.
             OnOk result (IsOk (network_in (settings_of self.now) input))) }
+        ensures network { ForPlain (S.remaining reader.old) (λ input. IfOk result (λ read.
+            HasEdgesOf (settings_of self.now) input read.graph)) }
         ensures of_edges { ForPlain (S.remaining reader.old) (λ input.
             IfErr result (RefusesEdges (settings_of self.now) input)) }
         ensures read { result ≡ Err (NetworkError.Edges EdgeError.Read) →

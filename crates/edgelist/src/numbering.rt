@@ -5,31 +5,23 @@ ghost use Rattle.std.specs.Prelude.{slice_index_or, [], true, false, IfOk, IfSom
 ghost use Rattle.std.specs.Prelude.{OnOk, OnErr};
 ghost use Rattle.std.specs.List.{IsDistinct};
 ghost use Rattle.std.specs.Str.{bytes_eq};
-ghost use Rattle.edgelist.specs.Guessing.{AreGuesses, IsShort, IsWord, StandsAt, IsGuess, blank_entry};
-ghost use Rattle.edgelist.specs.Guessing.{bytes_after, entry_word, word_of};
-ghost use Rattle.edgelist.specs.Labels.{texts};
-ghost use Rattle.edgelist.specs.declared.numbering.TheConstants.{FIRST, SHORT};
-ghost use Rattle.edgelist.specs.Reading.{has_label, with_label};
+ghost use Rattle.graph.specs.Finding.{StandsAt};
+ghost use Rattle.edgelist.specs.Guessing.{AreGuesses, IsShort, IsWord, IsGuess, blank_entry};
+ghost use Rattle.edgelist.specs.Guessing.{entry_word, word_of};
+ghost use Rattle.graph.specs.Labels.{texts, has_label, with_label};
+ghost use Rattle.edgelist.specs.declared.word.TheConstants.{SHORT};
 
 use crate::cut::CutRecord;
-use crate::labels::Labels;
 use crate::row::Row;
+use crate::word::{LONG, LabelWord, SHORT};
+use graph::{Labels, find_label, insert_label};
 use indexmap::IndexSet;
 use std::alloc::{AllocError, Global};
 use std::hash::RandomState;
 use std::marker::Model;
 
-// The most bytes of a label that is guessed at.
-const SHORT: usize = 11;
-
-// How many of them the first number of its word has, at most.
-const FIRST: usize = 8;
-
 // The number of entries at first, of 16 bytes each.
 const FIRST_ENTRIES: usize = 131_072;
-
-// The last byte of the second number of a long label's word; that of a short one is at most 12.
-const LONG: u32 = 255;
 
 // A table of so many entries is in the cache most often, and there is no need to look ahead.
 const IN_CACHE: usize = 524_288;
@@ -39,14 +31,6 @@ const MANY_ENTRIES: usize = 33_554_432;
 
 // The number of entries of a group: they lie side by side, most often in one line of the cache.
 const GROUP: usize = 4;
-
-/// A short label as two numbers that no other short label has: its first 8 bytes, and the others with its length. Those of
-/// a long label are mixed of its bytes: no short label has them, and few others do.
-#[derive(Clone, Copy, PartialEq, Eq)]
-pub(crate) struct LabelWord {
-    low: u64,
-    high: u32,
-}
 
 // A label's word, and the label's number.
 #[derive(Clone, Copy)]
@@ -77,97 +61,13 @@ pub(crate) struct Numbering {
 impl Model for Numbering {
     ghost use Rattle.std.specs.Prelude.{List, ℕ};
     ghost use Rattle.edgelist.specs.Guessing.{AreGuesses};
-    ghost use Rattle.edgelist.specs.Labels.{texts};
+    ghost use Rattle.graph.specs.Labels.{texts};
 
     ghost Value = { List (List ℕ) };
 
     ghost view = { λ n. texts n.labels };
 
     ghost invariant = { λ n. AreGuesses (texts n.labels) n.entries.items };
-}
-
-// Four bytes as the digits of one number.
-fn four(part: &[u8]) -> u64
-    requires { length part.now ≡ 4 }
-    ensures { result ≡ bytes_after 0 part.now }
-{
-    u64::from(u32::from_be_bytes([part[0], part[1], part[2], part[3]]))
-}
-
-// Four to eight bytes as the digits of one number: the first four and the last four. Bytes that are among both have the
-// same place by either.
-fn four_and_more(part: &[u8]) -> u64
-    requires least { 4 ≤ length part.now }
-    requires most { length part.now ≤ FIRST }
-    ensures { result ≡ bytes_after 0 part.now }
-{
-    let more = part.len() - 4;
-    let first = four(&part[..4]);
-    let last = four(&part[more..]);
-    first << (8 * more) | last
-}
-
-// Some bytes of a label as the digits of one number.
-fn digits(part: &[u8]) -> u64
-    requires { length part.now ≤ FIRST }
-    ensures value { result ≡ bytes_after 0 part.now }
-    ensures few { length part.now ≤ 3 → result < 2 ^ 24 }
-{
-    if part.len() >= 4 {
-        return four_and_more(part);
-    }
-    let mut digits = 0u64;
-    for byte in part {
-        digits = digits * 256 + u64::from(*byte);
-    }
-    digits
-}
-
-// The word of a short label.
-fn word(label: &[u8]) -> LabelWord
-    requires { length label.now ≤ SHORT }
-    ensures { result ≡ word_of label.now }
-{
-    let (first, rest) = label.split_at(label.len().min(FIRST));
-    let low = digits(first);
-    let high = (digits(rest) * 256 + label.len() as u64 + 1) as u32;
-    LabelWord { low, high }
-}
-
-// A number that another is mixed into: each bit of it depends on many of the other's.
-fn mix(number: u64) -> u64 {
-    let mixed = number.wrapping_mul(0x9e37_79b9_7f4a_7c15);
-    mixed ^ (mixed >> 32)
-}
-
-// The word of a long label.
-fn long_word(label: &[u8]) -> LabelWord {
-    let mut low = label.len() as u64;
-    let mut rest = label;
-    for _i in 0..=label.len() / FIRST {
-        let (first, more) = rest.split_at(rest.len().min(FIRST));
-        low = mix(low ^ digits(first));
-        rest = more;
-    }
-    let high = (mix(low) >> 32) as u32 | LONG;
-    LabelWord { low, high }
-}
-
-impl LabelWord {
-    /// The word of a label.
-    pub(crate) fn of(label: &[u8]) -> LabelWord
-        ensures { IsWord label.now result }
-    {
-        if label.len() > SHORT {
-            return long_word(label);
-        }
-        word(label)
-    }
-
-    /// The word of no label: the second number of a word is never 0.
-    pub(crate) fn none() -> LabelWord {
-        LabelWord { low: 0, high: 0 }
-    }
 }
 
 impl LabelGuess {
@@ -375,28 +275,6 @@ fn blank(alloc: Global, count: usize) -> Result<Vec<LabelGuess>, AllocError>
     vec![in alloc; BLANK; count]
 }
 
-// The number of a label that is in the set.
-fn find(labels: &IndexSet<Vec<u8>, RandomState>, label: &[u8]) -> Option<usize>
-    ensures found { IfSome result (StandsAt (texts labels.now) label.now) }
-    ensures none { IfNone result (has_label (texts labels.now) label.now ≡ false) }
-{
-    labels.get_index_of(label)
-}
-
-// Puts a label into the set, at the end if it is new, and tells its number.
-fn insert(
-    alloc: Global,
-    labels: &mut IndexSet<Vec<u8>, RandomState>,
-    label: &[u8],
-) -> Result<usize, AllocError>
-    ensures found { IfOk result (StandsAt (texts labels.new) label.now) }
-    ensures labels { OnOk result (texts labels.new ≡ with_label (texts labels.old) label.now) }
-    ensures kept { OnErr result (texts labels.new ≡ texts labels.old) }
-{
-    let (number, _) = labels.insert_full(Vec::from_slice(alloc, label)?)?;
-    Ok(number)
-}
-
 impl Numbering {
     /// No labels.
     pub(crate) fn new(alloc: Global, state: RandomState) -> Result<Numbering, AllocError>
@@ -498,7 +376,7 @@ impl Numbering {
         ensures known { has_label self.old label.now ≡ true → IsOk result }
         ensures kept { OnErr result (self.new ≡ self.old) }
     {
-        match find(&self.labels, label) {
+        match find_label(&self.labels, label) {
             Some(number) => Ok(number),
             None => self.insert_new(alloc, label),
         }
@@ -512,7 +390,7 @@ impl Numbering {
         ensures kept { OnErr result (self.new ≡ self.old) }
     {
         let _room = self.make_room(alloc, 1);
-        insert(alloc, &mut self.labels, label)
+        insert_label(alloc, &mut self.labels, label)
     }
 
     /// Looks at the first entry for each label of these rows, and makes room for as many as have a blank one there. No

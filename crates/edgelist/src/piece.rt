@@ -1,18 +1,19 @@
 //! Pieces of an edge list: some whole lines, whose records are cut into fields by whoever has time, and added in order.
 
 ghost use Rattle.std.specs.Prelude.{◌≡◌, ◌≢◌, ◌<◌, ◌≤◌, ◌++◌, [], ℕ, List, Result, length, take, true};
-ghost use Rattle.std.specs.Prelude.{Err, IfErr, IfOk, OnOk};
+ghost use Rattle.std.specs.Prelude.{Err, IfErr, IfOk, OnErr, OnOk};
 ghost use Rattle.std.specs.Io.KnownBytes.{IsAtEnd};
 ghost use Rattle.ball_model.specs.Input.{IsPlain, Network, Refusal, most_records, network_from, records};
 ghost use Rattle.edgelist.specs.Pieces.{EndsLine, Fills, IsDone, IsOn, IsThrough, piece_of};
-ghost use Rattle.edgelist.specs.Reading.{AreWithin, Refuses, byte_of, limits_of};
+ghost use Rattle.graph.specs.Records.{byte_of};
+ghost use Rattle.edgelist.specs.Reading.{AreWithin, Refuses, limits_of};
 
 use crate::cut::Cut;
-use crate::read::{Delimiter, EdgeError, EdgeLimits};
+use crate::limits::{EdgeError, EdgeLimits};
 use crate::reading::{Lines, Reading};
-use crate::records::reader_of;
 use crate::row::{AT_ONCE, Row, rows_for};
 use ball_model::CountedRead;
+use graph::{Delimiter, reader_of};
 use std::alloc::{AllocError, Global};
 
 /// So many bytes the first piece of a round waits for, also if there are records to be added meanwhile.
@@ -178,10 +179,10 @@ impl Piece {
         self.is_cut = false;
     }
 
-    /// Takes lines that are held and so many bytes of a reader in place of its own lines, or none if no line ends among
-    /// these; what is after the last line's end is held then. A line that is longer than that takes more. It tells what
-    /// the last call of the reader gave.
-    pub(crate) fn fill<S: CountedRead>(
+    // Takes lines that are held and so many bytes of a reader in place of its own lines, or none if no line ends among
+    // these; what is after the last line's end is held then. A line that is longer than that takes more. It tells what
+    // the last call of the reader gave.
+    fn take_lines<S: CountedRead>(
         &mut self,
         reader: &mut S,
         held: &mut Held,
@@ -215,6 +216,37 @@ impl Piece {
             hold_from(&mut self.lines, &mut held.bytes, end)?;
         }
         Ok(gives)
+    }
+
+    /// Takes lines that are held and so many bytes of a reader in place of its own lines, or none if no line ends among
+    /// these; what is after the last line's end is held then. A line that is longer than that takes more. It tells what
+    /// the last call of the reader gave. After an error it has no lines.
+    pub(crate) fn fill<S: CountedRead>(
+        &mut self,
+        reader: &mut S,
+        held: &mut Held,
+        delimiter: Delimiter,
+        amount: Amount,
+    ) -> Result<Gives, EdgeError>
+        ensures on { (text : List ℕ) (done : List (List (List ℕ))) →
+            IsOn (byte_of delimiter) text done held.old.bytes.items (S.remaining reader.old) →
+            OnOk result (IsOn (byte_of delimiter) text (done ++ records_of self.new)
+            held.new.bytes.items (S.remaining reader.new)) }
+        ensures plain { (text : List ℕ) (done : List (List (List ℕ))) →
+            IsOn (byte_of delimiter) text done held.old.bytes.items (S.remaining reader.old) →
+            OnOk result (has_plain_lines self.new) }
+        ensures end { IfOk result (λ gives. gives ≡ Gives.Nothing →
+            IsDone held.new.bytes.items (S.remaining reader.new)) }
+        ensures failed { IfErr result (λ e. (says : Result Network Refusal) → Refuses says e) }
+        ensures dropped { OnErr result (has_no_lines self.new) }
+    {
+        match self.take_lines(reader, held, delimiter, amount) {
+            Ok(gives) => Ok(gives),
+            Err(fault) => {
+                self.clear();
+                Err(fault)
+            }
+        }
     }
 
     /// Cuts the records of its lines into fields, if each of them has the form of one and there is memory.

@@ -8,13 +8,15 @@ ghost use Rattle.std.specs.Prelude.{Err, IfErr, IfOk, Ok, OnOk};
 ghost use Rattle.std.proofs.Props.{props};
 ghost use Rattle.ball_model.specs.Input.{IsPlain, Limits, most_records, records};
 ghost use Rattle.ball_model.specs.PlanValue.{most_vertices};
-ghost use Rattle.edgelist.specs.Reading.{AreWithin, Refuses, byte_of, limits_of, meaning_under};
-ghost use Rattle.edgelist.specs.declared.read.EdgeError.TheVariants as refused;
+ghost use Rattle.graph.specs.Records.{byte_of};
+ghost use Rattle.edgelist.specs.Reading.{AreWithin, Refuses, limits_of, meaning_under};
+ghost use Rattle.edgelist.specs.declared.limits.EdgeError.TheVariants as refused;
 
-use crate::read::{Delimiter, EdgeError, EdgeLimits, EdgeList, MOST_RECORDS, USUAL_RECORDS};
+use crate::limits::{EdgeError, EdgeLimits, EdgeList, MOST_RECORDS, USUAL_RECORDS};
 use crate::reading::{Lines, Reading};
 use crate::row::{AT_ONCE, Row, rows_for};
 use ball_model::plan::{MOST_VERTICES, USUAL_VERTICES};
+use graph::Delimiter;
 use std::alloc::Global;
 use std::hash::RandomState;
 

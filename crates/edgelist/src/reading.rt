@@ -8,30 +8,41 @@ ghost use Rattle.std.specs.List.Sorted.{IsPermutation};
 ghost use Rattle.ball_model.specs.PlanValue.{most_vertices};
 ghost use Rattle.ball_model.specs.Input.{IsPlain, Network, Refusal, has_form, most_records};
 ghost use Rattle.ball_model.specs.Input.{network_from, records};
-ghost use Rattle.edgelist.specs.Edges.{edge_of, graph_of_edges};
-ghost use Rattle.edgelist.specs.declared.read.EdgeError.TheVariants.{Memory};
+ghost use Rattle.graph.specs.Edges.{edge_of, graph_of_edges};
+ghost use Rattle.edgelist.specs.declared.limits.EdgeError.TheVariants.{Memory};
 ghost use Rattle.edgelist.specs.Guessing.{IsWord};
 ghost use Rattle.edgelist.specs.Pieces.{AddsRecords, IsPartRead, IsThrough, ReadsOn};
-ghost use Rattle.edgelist.specs.Records.{FromStart, HasForm, ReadsNoneAfter, ReadsOneAfter};
-ghost use Rattle.edgelist.specs.Reading.{AddsEdge, AddsRecord, AreWithin, EndsAtEnd, EndsAtFault};
-ghost use Rattle.edgelist.specs.Reading.{Exceeds, Refuses, Stops, has_label, limits_of, network_by};
-ghost use Rattle.edgelist.specs.Reading.{byte_of, with_label};
+ghost use Rattle.graph.specs.Records.{FromStart, byte_of};
+ghost use Rattle.edgelist.specs.Records.{HasForm, ReadsNoneAfter, ReadsOneAfter};
+ghost use Rattle.graph.specs.Making.{AddsEdge};
+ghost use Rattle.edgelist.specs.Reading.{AddsRecord, AreWithin, EndsAtEnd, EndsAtFault};
+ghost use Rattle.graph.specs.Labels.{has_label, with_label};
+ghost use Rattle.edgelist.specs.Reading.{Exceeds, Refuses, Stops, limits_of, network_by};
 
 use crate::cut::Cut;
-use crate::edge::Edge;
-use crate::graph::Graph;
-use crate::numbering::{LabelWord, Numbering};
-use crate::read::{Delimiter, EdgeError, EdgeLimits, EdgeList};
-use crate::records::reader_of;
+use crate::limits::{EdgeError, EdgeLimits, EdgeList, read_answer};
+use crate::numbering::Numbering;
 use crate::row::Row;
-use crate::sequential::Sequential;
-use crate::sort::sort_parts;
 use crate::watch::{Unwatched, Watch};
+use crate::word::LabelWord;
 use csv::Reader;
+use graph::{Delimiter, Edge, Graph, reader_of, sort_parts};
 use std::alloc::{AllocError, AllocGlobal, Global};
 use std::hash::RandomState;
 use std::io::Read;
 use std::thread::Threads;
+
+// The watch is called each time that so many records more were added.
+const TOLD_EACH: u64 = 1_024;
+
+/// How an edge list is read by one thread.
+#[derive(Drop)]
+pub(crate) struct Sequential<'a, W> {
+    /// It is called, as the records come, with how many were added so far.
+    pub(crate) watch: &'a W,
+    pub(crate) delimiter: Delimiter,
+    pub(crate) limits: EdgeLimits,
+}
 
 // The entries of so many records are looked at at once.
 const AHEAD: usize = 32;
@@ -488,20 +499,6 @@ impl Reading {
     }
 }
 
-// What is answered of lines in memory, of which no call can fail.
-fn without_read(read: Result<u64, EdgeError>) -> Result<u64, EdgeError>
-    ensures ok { IfOk result (λ n. read ≡ Ok n) }
-    ensures refused { (says : Result Network Refusal) → IfErr read (Refuses says) →
-        IfErr result (Refuses says) }
-    ensures read { result ≢ Err EdgeError.Read }
-{
-    match read {
-        Ok(number) => Ok(number),
-        Err(EdgeError::Read) => Err(EdgeError::Memory),
-        Err(error) => Err(error),
-    }
-}
-
 impl Reading {
     /// Adds the records of some lines, which follow `number` others, and tells how many there are then.
     pub(crate) fn read_lines(
@@ -537,7 +534,8 @@ impl Reading {
             limits,
         };
         let read = self.read_more(&mut reader, rows, number, &how);
-        without_read(read)
+        // no call fails of lines in memory
+        read_answer(read, false)
     }
 }
 
@@ -586,5 +584,14 @@ impl Reading {
             graph,
             records: number,
         })
+    }
+}
+
+impl<'a, W: Watch> Sequential<'a, W> {
+    /// Calls the watch if the number of records has passed a multiple of 1,024: it was `before`, and is `number` now.
+    pub(crate) fn tell(&self, before: u64, number: u64) {
+        if number / TOLD_EACH > before / TOLD_EACH {
+            self.watch.while_read(number);
+        }
     }
 }

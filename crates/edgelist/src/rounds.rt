@@ -2,23 +2,25 @@
 //! the pieces before, in order.
 
 ghost use Rattle.std.specs.Prelude.{◌≡◌, ◌≢◌, ◌<◌, ◌≤◌, ◌++◌, ℕ, List, Result, length, slice_index_or};
-ghost use Rattle.std.specs.Prelude.{Err, IfErr, IfOk, Ok, OnOk};
+ghost use Rattle.std.specs.Prelude.{Err, IfErr, IfOk, IsOk, Ok, OnOk, false, true};
 ghost use Rattle.std.specs.List.{All, flat_map};
 ghost use Rattle.std.specs.Thread.{IsSync};
 ghost use Rattle.ball_model.specs.Input.{Network, Refusal, most_records, network_from, records};
 ghost use Rattle.ball_model.specs.PlanValue.{most_vertices};
 ghost use Rattle.edgelist.specs.Pieces.{IsDone, IsOn, IsThrough};
-ghost use Rattle.edgelist.specs.Reading.{AreWithin, CountsOne, Refuses, byte_of, limits_of};
+ghost use Rattle.graph.specs.Records.{byte_of, ForPlain};
+ghost use Rattle.edgelist.specs.Reading.{AreWithin, CountsOne, IsClean, Refuses, limits_of};
 ghost use Rattle.edgelist.specs.Reading.{meaning_within};
-ghost use Rattle.edgelist.specs.Records.{ForPlain};
-ghost use Rattle.edgelist.specs.Rounds.{AreOn, IsSameText, has_no_lines, has_plain_lines, records_of};
+ghost use Rattle.edgelist.specs.Rounds.{AreBegun, AreOn, IsBegun, IsSameText, has_no_lines};
+ghost use Rattle.edgelist.specs.Rounds.{has_plain_lines, records_of};
 ghost use Rattle.edgelist.specs.declared.piece.Piece.{Piece};
 
+use crate::limits::{EdgeError, EdgeLimits, EdgeList, read_answer};
 use crate::piece::{Amount, Gives, Held, LEAST, Piece};
-use crate::read::{Delimiter, EdgeError, EdgeLimits, EdgeList, read_answer};
 use crate::reading::Reading;
 use crate::watch::Watch;
 use ball_model::CountedRead;
+use graph::Delimiter;
 use std::alloc::{AllocError, AllocGlobal, Global};
 use std::hash::RandomState;
 use std::thread::Threads;
@@ -77,8 +79,48 @@ fn amount_of(i: usize, size: usize) -> Amount {
     Amount { least, most: size }
 }
 
+// Fills a piece with the next lines of a reader, if its last call gave as much as was asked for, and tells what the last
+// one gave then. Else the piece has no lines, no call is made, and what was told before is told again.
+fn fill_next<S: CountedRead>(
+    piece: &mut Piece,
+    reader: &mut S,
+    held: &mut Held,
+    delimiter: Delimiter,
+    amount: Amount,
+    filled: Result<Gives, EdgeError>,
+) -> Result<Gives, EdgeError>
+    ensures on { (text : List ℕ) (done : List (List (List ℕ))) →
+        OnOk filled (IsOn (byte_of delimiter) text done held.old.bytes.items
+        (S.remaining reader.old)) →
+        OnOk result (IsOn (byte_of delimiter) text (done ++ records_of piece.new)
+        held.new.bytes.items (S.remaining reader.new)) }
+    ensures begun { (text : List ℕ) (done : List (List (List ℕ))) →
+        OnOk filled (IsOn (byte_of delimiter) text done held.old.bytes.items
+        (S.remaining reader.old)) → IsBegun (byte_of delimiter) text done →
+        IsBegun (byte_of delimiter) text (done ++ records_of piece.new) }
+    ensures plain { (text : List ℕ) (done : List (List (List ℕ))) →
+        OnOk filled (IsOn (byte_of delimiter) text done held.old.bytes.items
+        (S.remaining reader.old)) → has_plain_lines piece.new }
+    ensures end { IfOk filled (λ gives. gives ≡ Gives.Nothing →
+        IsDone held.old.bytes.items (S.remaining reader.old)) →
+        IfOk result (λ gives. gives ≡ Gives.Nothing →
+        IsDone held.new.bytes.items (S.remaining reader.new)) }
+    ensures failed { IfErr filled (λ e. (says : Result Network Refusal) → Refuses says e) →
+        IfErr result (λ e. (says : Result Network Refusal) → Refuses says e) }
+    ensures stays { filled ≢ Ok Gives.Much → result ≡ filled }
+    ensures quiet { filled ≢ Ok Gives.Much → reader.new ≡ reader.old }
+{
+    match filled {
+        Ok(Gives::Much) => piece.fill(reader, held, delimiter, amount),
+        Ok(Gives::Little | Gives::Nothing) | Err(_) => {
+            piece.clear();
+            filled
+        }
+    }
+}
+
 // Fills pieces with the next lines of a reader, and tells what its last call gave. Once one gave less than was asked for,
-// the pieces after it have no lines.
+// or a piece could not be filled, the pieces from there on have no lines.
 fn fill_pieces<S: CountedRead>(
     pieces: &mut [Piece],
     reader: &mut S,
@@ -86,25 +128,89 @@ fn fill_pieces<S: CountedRead>(
     delimiter: Delimiter,
     size: usize,
 ) -> Result<Gives, EdgeError>
+    requires { 0 < length pieces.old }
     ensures on { (text : List ℕ) (done : List (List (List ℕ))) →
         IsOn (byte_of delimiter) text done held.old.bytes.items (S.remaining reader.old) →
         OnOk result (IsOn (byte_of delimiter) text (done ++ flat_map records_of pieces.new)
         held.new.bytes.items (S.remaining reader.new)) }
+    ensures begun { (text : List ℕ) (done : List (List (List ℕ))) →
+        IsOn (byte_of delimiter) text done held.old.bytes.items (S.remaining reader.old) →
+        IsBegun (byte_of delimiter) text (done ++ flat_map records_of pieces.new) }
     ensures plain { (text : List ℕ) (done : List (List (List ℕ))) →
         IsOn (byte_of delimiter) text done held.old.bytes.items (S.remaining reader.old) →
-        OnOk result (All has_plain_lines pieces.new) }
+        All has_plain_lines pieces.new }
     ensures end { IfOk result (λ gives. gives ≡ Gives.Nothing →
         IsDone held.new.bytes.items (S.remaining reader.new)) }
     ensures failed { IfErr result (λ e. (says : Result Network Refusal) → Refuses says e) }
 {
-    let mut gives = Gives::Much;
+    let mut filled = Ok(Gives::Much);
     for i in 0..pieces.len() {
-        match gives {
-            Gives::Much => gives = pieces[i].fill(reader, held, delimiter, amount_of(i, size))?,
-            Gives::Little | Gives::Nothing => pieces[i].clear(),
-        }
+        let amount = amount_of(i, size);
+        filled = fill_next(&mut pieces[i], reader, held, delimiter, amount, filled);
     }
-    Ok(gives)
+    filled
+}
+
+// Whether no round follows one in which pieces were filled so.
+fn is_last(filled: Result<Gives, EdgeError>) -> bool
+    ensures last { result ≡ true → IfOk filled (λ gives. gives ≡ Gives.Nothing) }
+    ensures goes { result ≡ false → IsOk filled }
+    ensures end { filled ≡ Ok Gives.Nothing → result ≡ true }
+{
+    match filled {
+        Ok(gives) => gives == Gives::Nothing,
+        Err(_) => true,
+    }
+}
+
+// What is told of the last pieces: why one of their records was not added, and else why no more could be filled.
+fn told_last(
+    added: Result<u64, EdgeError>,
+    filled: Result<Gives, EdgeError>,
+) -> Result<u64, EdgeError>
+    ensures added { IfErr added (λ e. result ≡ Err e) }
+    ensures filled { IfOk added (λ _. IfErr filled (λ e. result ≡ Err e)) }
+    ensures ok { IfOk added (λ n. IfOk filled (λ _. result ≡ Ok n)) }
+{
+    let n = added?;
+    filled?;
+    Ok(n)
+}
+
+// Adds the records of the last pieces that were filled, which follow `number` others. Only then it tells why no more could
+// be filled.
+fn add_last(
+    alloc: Global,
+    reading: &mut Reading,
+    pieces: &[Piece],
+    number: u64,
+    limits: EdgeLimits,
+    filled: Result<Gives, EdgeError>,
+) -> Result<u64, EdgeError>
+    requires few { limits.edges ≤ most_records }
+    requires number { number ≤ limits.edges }
+    requires within { AreWithin limits.vertices number
+        reading.old.labels reading.old.edges.items }
+    requires failed { IfErr filled (λ e. (says : Result Network Refusal) → Refuses says e) }
+    ensures number { IfOk result (λ n. n ≤ limits.edges) }
+    ensures within { IfOk result (λ n. AreWithin limits.vertices n
+        reading.new.labels reading.new.edges.items) }
+    ensures filled { OnOk result (IsOk filled) }
+    ensures ok { (before : List (List (List ℕ))) → All has_plain_lines pieces.now →
+        IsThrough (limits_of limits) number before reading.old.labels reading.old.edges.items →
+        IfOk result (λ n. IsThrough (limits_of limits) n
+        (before ++ flat_map records_of pieces.now) reading.new.labels reading.new.edges.items) }
+    ensures refused { (before more : List (List (List ℕ))) → All has_plain_lines pieces.now →
+        IsThrough (limits_of limits) number before reading.old.labels reading.old.edges.items →
+        IfErr result (Refuses (network_from (limits_of limits)
+        (before ++ (flat_map records_of pieces.now ++ more)))) }
+    ensures read { (before : List (List (List ℕ))) → All has_plain_lines pieces.now →
+        IsThrough (limits_of limits) number before reading.old.labels reading.old.edges.items →
+        result ≡ Err EdgeError.Read →
+        IsClean (limits_of limits) (before ++ flat_map records_of pieces.now) }
+{
+    let added = add_pieces(alloc, reading, pieces, number, limits);
+    told_last(added, filled)
 }
 
 // The bytes of pieces that follow so many records: few at first, so that the pieces of a short list take little memory.
@@ -117,9 +223,19 @@ fn size_after(number: u64) -> usize {
     }
 }
 
+// How many pieces a round has: at least one, and no more than there are threads to cut them.
+fn pieces_in_round(threads: usize) -> usize
+    requires { 2 ≤ threads }
+    ensures some { 0 < result }
+    ensures few { result < threads }
+{
+    MOST_PIECES.min(threads - 1)
+}
+
 // Pieces with no lines.
 fn pieces_for(alloc: Global, delimiter: Delimiter, count: usize) -> Result<Vec<Piece>, AllocError>
-    ensures { IfOk result (λ pieces. All has_no_lines pieces.items) }
+    ensures none { IfOk result (λ pieces. All has_no_lines pieces.items) }
+    ensures count { IfOk result (λ pieces. length pieces.items ≡ count) }
 {
     let mut pieces = Vec::with_capacity(alloc, count)?;
     for _i in 0..count {
@@ -173,6 +289,7 @@ impl<'a, R: AllocGlobal + Threads + Sync, W: Watch> Rounds<'a, R, W> {
             reading.old.labels reading.old.edges.items →
             IfErr result (Refuses (network_from (limits_of self.now.limits)
             (before ++ (flat_map records_of pieces.now ++ more)))) }
+        ensures read { result ≢ Err EdgeError.Read }
     {
         let (rt, limits, cutting) = (self.rt, self.limits, self.threads - 1);
         let alloc = rt.alloc();
@@ -204,7 +321,7 @@ impl<'a, R: AllocGlobal + Threads + Sync, W: Watch> Rounds<'a, R, W> {
     }
 
     // Fills pieces, and cuts them while the records of others are added. Tells how many records there are then, and what
-    // the last call of the reader gave.
+    // the last call of the reader gave, or why a piece could not be filled: those of the others come first.
     fn take_turn<S: CountedRead>(
         &self,
         reading: &mut Reading,
@@ -213,9 +330,10 @@ impl<'a, R: AllocGlobal + Threads + Sync, W: Watch> Rounds<'a, R, W> {
         coming: &mut [Piece],
         reader: &mut S,
         held: &mut Held,
-    ) -> Result<(u64, Gives), EdgeError>
+    ) -> Result<(u64, Result<Gives, EdgeError>), EdgeError>
         requires threads { 2 ≤ self.now.threads }
         requires few { self.now.limits.edges ≤ most_records }
+        requires some { 0 < length coming.old }
         requires number { number ≤ self.now.limits.edges }
         requires within { AreWithin self.now.limits.vertices number
             reading.old.labels reading.old.edges.items }
@@ -225,28 +343,37 @@ impl<'a, R: AllocGlobal + Threads + Sync, W: Watch> Rounds<'a, R, W> {
         ensures on { (text : List ℕ) →
             AreOn (limits_of self.now.limits) (byte_of self.now.delimiter) text number
             reading.old.labels reading.old.edges.items pieces.now held.old.bytes.items
-            (S.remaining reader.old) → IfOk result (λ r.
+            (S.remaining reader.old) → IfOk result (λ r. OnOk r.1 (
             AreOn (limits_of self.now.limits) (byte_of self.now.delimiter) text r.0
             reading.new.labels reading.new.edges.items coming.new held.new.bytes.items
-            (S.remaining reader.new)) }
-        ensures end { IfOk result (λ r. r.1 ≡ Gives.Nothing →
-            IsDone held.new.bytes.items (S.remaining reader.new)) }
+            (S.remaining reader.new))) }
+        ensures begun { (text : List ℕ) →
+            AreOn (limits_of self.now.limits) (byte_of self.now.delimiter) text number
+            reading.old.labels reading.old.edges.items pieces.now held.old.bytes.items
+            (S.remaining reader.old) → IfOk result (λ r.
+            AreBegun (limits_of self.now.limits) (byte_of self.now.delimiter) text r.0
+            reading.new.labels reading.new.edges.items coming.new) }
+        ensures end { IfOk result (λ r. IfOk r.1 (λ gives. gives ≡ Gives.Nothing →
+            IsDone held.new.bytes.items (S.remaining reader.new))) }
         ensures refused { (text : List ℕ) →
             AreOn (limits_of self.now.limits) (byte_of self.now.delimiter) text number
             reading.old.labels reading.old.edges.items pieces.now held.old.bytes.items
             (S.remaining reader.old) → IfErr result (Refuses (network_from
             (limits_of self.now.limits) (records (byte_of self.now.delimiter) text))) }
+        ensures failed { IfOk result (λ r. IfErr r.1 (λ e.
+            (says : Result Network Refusal) → Refuses says e)) }
+        ensures read { result ≢ Err EdgeError.Read }
     {
         let size = self.size.min(size_after(number));
-        let gives = fill_pieces(coming, reader, held, self.delimiter, size)?;
+        let filled = fill_pieces(coming, reader, held, self.delimiter, size);
         let n = self.add_and_cut(reading, number, pieces, coming)?;
         self.tell(n);
-        Ok((n, gives))
+        Ok((n, filled))
     }
 
     // The labels and edges of all records, and how many records there are. Some pieces are filled, and cut while others are
-    // added, in turn.
-    fn read_rounds<S: CountedRead>(
+    // added, in turn. If one cannot be filled, what refuses a record of those before is told, and else why it could not.
+    pub(crate) fn read_rounds<S: CountedRead>(
         &self,
         state: RandomState,
         reader: &mut S,
@@ -263,14 +390,14 @@ impl<'a, R: AllocGlobal + Threads + Sync, W: Watch> Rounds<'a, R, W> {
             (Refuses (meaning_within self.now.limits self.now.delimiter text))) }
     {
         let alloc = self.rt.alloc();
-        let count = MOST_PIECES.min(self.threads - 1);
+        let count = pieces_in_round(self.threads);
         let mut pieces = pieces_for(alloc, self.delimiter, count)?;
         let mut coming = pieces_for(alloc, self.delimiter, count)?;
         let mut held = Held::new(alloc)?;
         let mut reading = Reading::new(alloc, state)?;
         let mut number = 0;
         for _turn in 0..u64::MAX {
-            let (n, gives) = self.take_turn(
+            let (n, filled) = self.take_turn(
                 &mut reading,
                 number,
                 &pieces,
@@ -278,8 +405,8 @@ impl<'a, R: AllocGlobal + Threads + Sync, W: Watch> Rounds<'a, R, W> {
                 reader,
                 &mut held,
             )?;
-            if gives == Gives::Nothing {
-                let n = add_pieces(alloc, &mut reading, &coming, n, self.limits)?;
+            if is_last(filled) {
+                let n = add_last(alloc, &mut reading, &coming, n, self.limits, filled)?;
                 return Ok((reading, n));
             }
             mem::swap(&mut pieces, &mut coming);
@@ -293,8 +420,9 @@ impl<'a, R: AllocGlobal + Threads + Sync, W: Watch> Rounds<'a, R, W> {
     /// no other time.
     ///
     /// Up to two rounds of pieces are asked for beyond the record that is refused. If a read fails there, `Read` is
-    /// answered. A piece takes some 48 bytes a record beside its bytes and those of its fields, and room to grow: 1 MiB
-    /// if lines have some twelve bytes, and up to 7 MiB if they have two.
+    /// answered; if memory is refused there, the record's refusal is. A piece takes some 48 bytes a record beside its
+    /// bytes and those of its fields, and room to grow: 1 MiB if lines have some twelve bytes, and up to 7 MiB if they
+    /// have two.
     pub(crate) fn read<S: CountedRead>(
         &self,
         state: RandomState,
@@ -315,11 +443,9 @@ impl<'a, R: AllocGlobal + Threads + Sync, W: Watch> Rounds<'a, R, W> {
             result ≡ Err EdgeError.Read }
     {
         let before = reader.failures();
-        let result = match self.read_rounds(state, reader) {
-            Ok((reading, number)) => reading.into_list_by(self.rt, number, self.threads),
-            Err(fault) => Err(fault),
-        };
+        let read = self.read_rounds(state, reader);
         let failed = reader.failures() > before;
-        read_answer(result, failed)
+        let (reading, number) = read_answer(read, failed)?;
+        reading.into_list_by(self.rt, number, self.threads)
     }
 }

@@ -6,11 +6,11 @@ ghost use Rattle.csv.specs.Records.{fields_of};
 ghost use Rattle.ball_model.specs.Input.{has_form};
 ghost use Rattle.edgelist.specs.Guessing.{HasWord};
 ghost use Rattle.edgelist.specs.Reading.{fields_with};
-ghost use Rattle.edgelist.specs.Records.{ReadsNone, ReadsOne};
+ghost use Rattle.graph.specs.Records.{ReadsNone, ReadsOne};
 
-use crate::numbering::LabelWord;
-use crate::records::is_blank;
+use crate::word::LabelWord;
 use csv::{ByteRecord, Reader};
+use graph::is_blank;
 use std::alloc::{AllocError, Global};
 use std::io::Read;
 use std::marker::Model;

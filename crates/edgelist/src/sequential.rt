@@ -5,33 +5,21 @@ ghost use Rattle.std.specs.Io.KnownBytes.{ReadConsumes};
 ghost use Rattle.std.specs.Io.{ReadsAtMost};
 ghost use Rattle.ball_model.specs.PlanValue.{most_vertices};
 ghost use Rattle.ball_model.specs.Input.{most_records, network_from, records};
-ghost use Rattle.edgelist.specs.Records.{ForPlain, FromStart};
+ghost use Rattle.graph.specs.Records.{ForPlain, FromStart, byte_of};
 ghost use Rattle.edgelist.specs.Reading.{AreWithin, CountsOne, EndsAtEnd, EndsAtFault, IsReadBy};
-ghost use Rattle.edgelist.specs.Reading.{Refuses, byte_of, limits_of, meaning_within};
+ghost use Rattle.edgelist.specs.Reading.{Refuses, limits_of, meaning_within};
 
-use crate::read::{Delimiter, EdgeError, EdgeLimits, EdgeList, read_answer};
-use crate::reading::Reading;
-use crate::records::reader_of;
+use crate::limits::{EdgeError, EdgeLimits, EdgeList, read_answer};
+use crate::reading::{Reading, Sequential};
 use crate::row::{AT_ONCE, Row, rows_for};
 use crate::watch::Watch;
 use ball_model::CountedRead;
 use csv::Reader;
+use graph::{Delimiter, reader_of};
 use std::alloc::Global;
 use std::hash::RandomState;
 use std::io;
 use std::io::{ErrorKind, Read};
-
-// The watch is called each time that so many records more were added.
-const TOLD_EACH: u64 = 1_024;
-
-/// How an edge list is read by one thread.
-#[derive(Drop)]
-pub(crate) struct Sequential<'a, W> {
-    /// It is called, as the records come, with how many were added so far.
-    pub(crate) watch: &'a W,
-    pub(crate) delimiter: Delimiter,
-    pub(crate) limits: EdgeLimits,
-}
 
 // A reader as `csv` reads it, each of whose failed calls is counted.
 #[derive(Drop)]
@@ -57,13 +45,6 @@ impl<'a, R: CountedRead> Read for Counted<'a, R> {
 }
 
 impl<'a, W: Watch> Sequential<'a, W> {
-    /// Calls the watch if the number of records has passed a multiple of 1,024: it was `before`, and is `number` now.
-    pub(crate) fn tell(&self, before: u64, number: u64) {
-        if number / TOLD_EACH > before / TOLD_EACH {
-            self.watch.while_read(number);
-        }
-    }
-
     // Reads all records that are left, and tells how many they were.
     fn read_records<R: Read + Drop>(
         &self,
@@ -141,11 +122,9 @@ impl<'a, W: Watch> Sequential<'a, W> {
         let counted = Counted {
             reader: &mut *reader,
         };
-        let result = match self.read_source(alloc, state, counted) {
-            Ok((reading, number)) => reading.into_list(alloc, number),
-            Err(fault) => Err(fault),
-        };
+        let read = self.read_source(alloc, state, counted);
         let failed = reader.failures() > before;
-        read_answer(result, failed)
+        let (reading, number) = read_answer(read, failed)?;
+        reading.into_list(alloc, number)
     }
 }

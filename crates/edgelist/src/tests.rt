@@ -1,6 +1,5 @@
 //! What no clause says: worked edge lists, digests, and readers that fail.
 
-mod codes;
 mod counting;
 mod damage;
 mod job;
@@ -16,7 +15,7 @@ ghost use Rattle.std.specs.Prelude.{None};
 
 use crate::{
     CountedError, Delimiter, EdgeError, EdgeLimits, EdgeList, EdgeReader, Graph, JobOptions,
-    NetworkError, Part, Preds, laws, read_edge_list, read_edges, read_large_edge_list,
+    NetworkError, Part, Preds, read_edge_list, read_edges, read_large_edge_list,
 };
 use ball_model::{CountingReader, Estimate, PlanError};
 use sha2::{Digest, Sha256};
@@ -246,14 +245,4 @@ fn error_texts(rt: HostRuntime) {
     let alloc = rt.alloc();
     let right = have_texts(alloc, &EDGE_TEXTS) && have_texts(alloc, &LIST_TEXTS);
     assert!(rt; right && have_texts(alloc, &NETWORK_TEXTS));
-}
-
-#[test]
-fn laws_hold() {
-    laws::labels_are_distinct();
-    laws::labels_are_in_order();
-    laws::labels_are_fields();
-    laws::edges_are_named();
-    laws::edges_stand_once();
-    laws::declaring_adds_no_edge();
 }

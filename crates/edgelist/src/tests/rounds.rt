@@ -116,10 +116,11 @@ fn are_told<R: AllocGlobal + Threads + Sync>(
 
 #[test]
 fn worked_edge_lists_piece_by_piece(rt: HostRuntime) {
-    let Ok(state) = RandomState::new(&rt) else {
-        return;
+    let right = match RandomState::new(&rt) {
+        Ok(state) => are_told(&rt, state, &CASES) && are_told(&rt, state, &LONGER),
+        Err(_) => false,
     };
-    assert!(rt; are_told(&rt, state, &CASES) && are_told(&rt, state, &LONGER));
+    assert!(rt; right);
 }
 
 // An edge list, how it is read, and how many calls are made of its reader.
@@ -195,12 +196,61 @@ fn refused_fail_at_each<R: AllocGlobal + Threads + Sync>(rt: &R, state: RandomSt
 
 #[test]
 fn failing_readers_piece_by_piece(rt: HostRuntime) {
-    let Ok(state) = RandomState::new(&rt) else {
-        return;
+    let right = match RandomState::new(&rt) {
+        Ok(state) => {
+            all_fail_at_each(&rt, state)
+                && worked_fail_at_each(&rt, state)
+                && refused_fail_at_each(&rt, state)
+        }
+        Err(_) => false,
     };
-    let right = all_fail_at_each(&rt, state)
-        && worked_fail_at_each(&rt, state)
-        && refused_fail_at_each(&rt, state);
+    assert!(rt; right);
+}
+
+// What refuses the list of two faults, read by four threads in pieces of one line, if so many calls succeed.
+fn fault_in<R: AllocGlobal + Threads + Sync>(
+    rt: &R,
+    state: RandomState,
+    good: u64,
+) -> Option<EdgeError> {
+    let rounds = Rounds {
+        rt,
+        watch: &Unwatched,
+        delimiter: Tab,
+        limits: LIMITS,
+        size: 4,
+        threads: 4,
+    };
+    let mut reader = CountingReader::new(Stepping {
+        bytes: TWO_FAULTS,
+        step: usize::MAX,
+        good,
+    });
+    match rounds.read_rounds(state, &mut reader) {
+        Ok(_) => None,
+        Err(fault) => Some(fault),
+    }
+}
+
+// Whether the sixth line, which comes with the sixth call, is refused exactly if that one succeeds. (A call that failed is
+// answered as `Read` all the same, by whoever counts the calls.)
+fn is_refused_first<R: AllocGlobal + Threads + Sync>(rt: &R, state: RandomState) -> bool {
+    let mut right = true;
+    for good in 0..6 {
+        right &= fault_in(rt, state, good) == Some(EdgeError::Read);
+    }
+    for good in 6..9 {
+        right &= fault_in(rt, state, good) == Some(EdgeError::Fields { number: 6 });
+    }
+    right
+}
+
+#[test]
+fn refusals_before_a_call_that_fails(rt: HostRuntime) {
+    let right = match RandomState::new(&rt) {
+        Ok(state) => is_refused_first(&rt, state),
+        Err(_) => false,
+    };
     assert!(rt; right);
 }
 
@@ -283,14 +333,40 @@ fn records_in_pieces<R: AllocGlobal + Threads + Sync>(
 
 // One thread tells the watch each time that 1,024 more are added. More threads tell it what was added before the last
 // round: nothing if there is one round, and one record if each has a round.
+fn are_told_of<R: AllocGlobal + Threads + Sync>(rt: &R, state: RandomState) -> bool {
+    records_by(rt, state, TWO_EDGES, 1) == Some((2, None))
+        && many_records(rt, state) == Some((3_000, Some(2_048)))
+        && records_by(rt, state, TWO_EDGES, 3) == Some((2, None))
+        && records_in_pieces(rt, state) == Some((2, Some(1)))
+}
+
 #[test]
 fn records_are_told(rt: HostRuntime) {
-    let Ok(state) = RandomState::new(&rt) else {
-        return;
+    let right = match RandomState::new(&rt) {
+        Ok(state) => are_told_of(&rt, state),
+        Err(_) => false,
     };
-    let right = records_by(&rt, state, TWO_EDGES, 1) == Some((2, None))
-        && many_records(&rt, state) == Some((3_000, Some(2_048)))
-        && records_by(&rt, state, TWO_EDGES, 3) == Some((2, None))
-        && records_in_pieces(&rt, state) == Some((2, Some(1)));
+    assert!(rt; right);
+}
+
+// How many of 10,000 records each number of threads from 1 to 4 reads. Pieces have 16 KiB, so two threads have three rounds.
+fn are_counted<R: AllocGlobal + Threads + Sync>(rt: &R, state: RandomState) -> bool {
+    let mut text = Vec::new(rt.alloc());
+    let mut right = push_pieces(&mut text, &[(b"a\tb\n", 10_000)]);
+    for threads in 1..5 {
+        right &= match records_by(rt, state, &text, threads) {
+            Some((records, _)) => records == 10_000,
+            None => false,
+        };
+    }
+    right
+}
+
+#[test]
+fn each_number_of_threads(rt: HostRuntime) {
+    let right = match RandomState::new(&rt) {
+        Ok(state) => are_counted(&rt, state),
+        Err(_) => false,
+    };
     assert!(rt; right);
 }

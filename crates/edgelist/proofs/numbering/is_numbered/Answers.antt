@@ -2,7 +2,7 @@ use Rattle.std.proofs.Common.{◌≡◌, ◌∙◌, ◌<◌, ℕ, List, [], Some
 use Rattle.std.specs.List.{slice_get}
 use Rattle.std.proofs.lemmas.List.{get_or-map, length-map}
 use Rattle.std.proofs.lemmas.Option.{get_or_from_slice_get, slice_get_within}
-use Rattle.edgelist.specs.Guessing.{StandsAt}
+use Rattle.graph.specs.Finding.{StandsAt}
 use Rattle.std.specs.Cmp.Lexicographic.{same_text}
 use Rattle.edgelist.proofs.numbering.is_numbered.Goals as goal
 

@@ -1,5 +1,5 @@
 use Rattle.std.proofs.Common.{◌≡◌, sym, subst}
-use Rattle.edgelist.specs.Guessing.{StandsAt}
+use Rattle.graph.specs.Finding.{StandsAt}
 use Rattle.edgelist.proofs.GuessLemmas.{tells-one}
 use Rattle.edgelist.proofs.numbering.remember.Goals as goal
 

@@ -1,5 +1,5 @@
 use Rattle.std.proofs.Common.{List, ℕ}
-use Rattle.edgelist.specs.Records.{IsLeft}
+use Rattle.graph.specs.Records.{IsLeft}
 use Rattle.edgelist.proofs.cut.Cut.push_all.Given as goal
 
 abbrev pub invariant-loop-turn : goal.invariant-loop-turn

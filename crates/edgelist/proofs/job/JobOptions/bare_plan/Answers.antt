@@ -2,8 +2,8 @@ use Rattle.std.proofs.Common.{Bool, false, true, Ok, ◌≤◌, refl, arith}
 use Rattle.ball_model.specs.PlanValue.{most_vertices}
 use Rattle.ball_model.specs.RunText.{run_limits}
 use Rattle.edgelist.specs.Job.{numbers_asked}
-use Rattle.edgelist.specs.Planning.{signed}
-use Rattle.edgelist.proofs.PlanLemmas.{plan-job, signed-plan}
+use Rattle.graph.specs.Planning.{signed}
+use Rattle.graph.proofs.PlanLemmas.{plan-job, signed-plan}
 use Rattle.edgelist.proofs.job.JobOptions.bare_plan.Goals as goal
 
 few : (large : Bool) → (run_limits large).vertices ≤ most_vertices

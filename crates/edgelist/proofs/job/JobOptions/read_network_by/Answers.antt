@@ -22,3 +22,12 @@ returns-in_err-count_listed-clause-of_edges g c =
 
 pub returns-clause-edges : goal.returns-clause-edges
 returns-clause-edges g c = read_edges (settings_of c.args.self.now) (g.S.Read.remaining c.args.reader.now) c.in_ok-read.read.graph c.in_ok-read.ensures.ok
+
+pub returns-clause-network : goal.returns-clause-network
+returns-clause-network g c = λ input is plain. record {
+  all = c.in_ok-read.read.graph;
+  read = c.in_ok-read.ensures.ok input is plain;
+  labels = c.count_listed.ensures.labels;
+  vertices = c.count_listed.ensures.vertices;
+  edges = c.count_listed.ensures.edges;
+}

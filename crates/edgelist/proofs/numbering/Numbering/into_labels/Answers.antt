@@ -1,6 +1,6 @@
 use Rattle.std.proofs.Common.{◌∙◌, List, ℕ, Vec, Global}
 use Rattle.std.proofs.lemmas.Result.{IfOk-weaker}
-use Rattle.edgelist.proofs.CountLemmas.{distinct-texts}
+use Rattle.graph.proofs.CountLemmas.{distinct-texts}
 use Rattle.edgelist.proofs.numbering.Numbering.into_labels.Goals as goal
 
 abbrev text : Vec ℕ Global → List ℕ

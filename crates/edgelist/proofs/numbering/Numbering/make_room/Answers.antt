@@ -1,8 +1,8 @@
 use Rattle.std.proofs.Common.{◌≡◌, length, ap, arith}
 use Rattle.edgelist.specs.Guessing.{AreGuesses}
-use Rattle.edgelist.specs.Labels.{texts}
+use Rattle.graph.specs.Labels.{texts}
 use Rattle.edgelist.specs.declared.numbering.LabelGuess.{LabelGuess}
-use Rattle.edgelist.proofs.FeedLemmas.{refill}
+use Rattle.graph.proofs.FeedLemmas.{refill}
 use Rattle.edgelist.proofs.GuessLemmas.{told-blank}
 use Rattle.edgelist.proofs.numbering.Numbering.make_room.Goals as goal
 

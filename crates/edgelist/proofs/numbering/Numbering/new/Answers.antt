@@ -1,5 +1,5 @@
 use Rattle.std.proofs.Common.{refl}
-use Rattle.edgelist.specs.Labels.{texts}
+use Rattle.graph.specs.Labels.{texts}
 use Rattle.edgelist.proofs.GuessLemmas.{told-blank}
 use Rattle.edgelist.proofs.numbering.Numbering.new.Goals as goal
 

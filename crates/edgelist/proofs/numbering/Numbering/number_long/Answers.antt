@@ -1,5 +1,5 @@
 use Rattle.std.proofs.Common.{ℕ, List, subst}
-use Rattle.edgelist.specs.Guessing.{StandsAt}
+use Rattle.graph.specs.Finding.{StandsAt}
 use Rattle.edgelist.proofs.GuessLemmas.{with-label-at}
 use Rattle.edgelist.proofs.numbering.Numbering.number_long.Goals as goal
 

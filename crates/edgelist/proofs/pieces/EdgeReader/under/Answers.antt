@@ -1,5 +1,5 @@
 use Rattle.std.proofs.Common.{[], refl, inl}
-use Rattle.edgelist.specs.Reading.{byte_of}
+use Rattle.graph.specs.Records.{byte_of}
 use Rattle.edgelist.proofs.GivenLemmas.{records-none}
 use Rattle.edgelist.proofs.PieceLemmas.{through-none}
 use Rattle.edgelist.proofs.pieces.EdgeReader.under.Goals as goal

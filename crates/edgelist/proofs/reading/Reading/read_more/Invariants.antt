@@ -1,6 +1,6 @@
 use Rattle.std.proofs.Common.{◌≤◌, ℕ, List, []}
 use Rattle.edgelist.specs.Pieces.{IsPartRead, IsThrough}
-use Rattle.edgelist.specs.Records.{IsLeft}
+use Rattle.graph.specs.Records.{IsLeft}
 use Rattle.edgelist.specs.Reading.{limits_of, AreWithin}
 use Rattle.edgelist.proofs.reading.Reading.read_more.Given as goal
 

@@ -1,9 +1,9 @@
 use Rattle.std.proofs.Common.{◌≡◌, ◌<◌, ◌+◌, ℕ, List, [], length, get_or, arith, true, false, subst}
 use Rattle.std.proofs.lemmas.List.{get_or_default}
 use Rattle.std.proofs.lemmas.Result.{err_from_is_err_and}
-use Rattle.edgelist.specs.Records.{ReadsOne}
+use Rattle.graph.specs.Records.{ReadsOne}
 use Rattle.edgelist.specs.Reading.{limits_of}
-use Rattle.edgelist.specs.declared.read.EdgeError.TheVariants as refused
+use Rattle.edgelist.specs.declared.limits.EdgeError.TheVariants as refused
 use Rattle.edgelist.proofs.PieceLemmas.{part-read-more, reads-failed, reads-part, reads-refused, reads-whole}
 use Rattle.edgelist.proofs.RowLemmas.{part-read-rows}
 use Rattle.edgelist.proofs.reading.Reading.read_some.Goals as goal

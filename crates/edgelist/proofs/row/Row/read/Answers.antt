@@ -1,7 +1,7 @@
 use Rattle.std.proofs.Common.{◌∙◌, refl, sym}
 use Rattle.std.proofs.lemmas.Bool.{false≢true, not-true, not-false}
 use Rattle.csv.specs.Records.{fields_of}
-use Rattle.edgelist.proofs.RecordLemmas.{reads-none, reads-one}
+use Rattle.graph.proofs.RecordLemmas.{reads-none, reads-one}
 use Rattle.edgelist.proofs.row.Row.read.Goals as goal
 use Rattle.edgelist.proofs.row.Row.read.Goals.{then-more, else-more}
 

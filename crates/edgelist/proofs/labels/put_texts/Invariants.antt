@@ -1,9 +1,0 @@
-use Rattle.std.proofs.Common.{◌≡◌, length, map, take}
-use Rattle.edgelist.specs.Lists.{Ascend, lists_between}
-use Rattle.edgelist.proofs.labels.put_texts.Given as goal
-
-abbrev pub invariant-loop-text : goal.invariant-loop-text
-invariant-loop-text l = record {
-  starts : Ascend (length l.bytes.items) l.starts;
-  labels : lists_between l.bytes.items l.starts ≡ map (λ text. text.items) (take l.text-index l.texts);
-}

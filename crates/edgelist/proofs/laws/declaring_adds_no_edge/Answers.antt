@@ -1,5 +1,0 @@
-use Rattle.edgelist.proofs.InputLemmas.{declaring_adds_no_edge}
-use Rattle.edgelist.proofs.laws.declaring_adds_no_edge.Goals as goal
-
-pub returns : goal.returns
-returns c = declaring_adds_no_edge

@@ -1,5 +1,0 @@
-use Rattle.edgelist.proofs.InputLemmas.{edges_stand_once}
-use Rattle.edgelist.proofs.laws.edges_stand_once.Goals as goal
-
-pub returns : goal.returns
-returns c = edges_stand_once

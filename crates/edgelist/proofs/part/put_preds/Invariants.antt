@@ -1,8 +1,0 @@
-use Rattle.std.proofs.Common.{◌≡◌, ◌++◌}
-use Rattle.edgelist.proofs.part.put_preds.Given as goal
-
-abbrev pub invariant-loop-y : goal.invariant-loop-y
-invariant-loop-y l = record {
-  left : l.fn.preds ≡ l.yielded ++ l.y-iterator;
-  items : l.row.items ≡ l.yielded;
-}

@@ -1,0 +1,106 @@
+//! Labels as numbers: the words by which they are looked up.
+
+ghost use Rattle.std.specs.Prelude.{◌≡◌, ◌^◌, ◌<◌, ◌≤◌, length};
+ghost use Rattle.edgelist.specs.Guessing.{IsWord, bytes_after, word_of};
+ghost use Rattle.edgelist.specs.declared.word.TheConstants.{FIRST, SHORT};
+
+// The most bytes of a label that is guessed at.
+pub(crate) const SHORT: usize = 11;
+
+// How many of them the first number of its word has, at most.
+const FIRST: usize = 8;
+
+// The last byte of the second number of a long label's word; that of a short one is at most 12.
+pub(crate) const LONG: u32 = 255;
+
+/// A short label as two numbers that no other short label has: its first 8 bytes, and the others with its length. Those of
+/// a long label are mixed of its bytes: no short label has them, and few others do.
+#[derive(Clone, Copy, PartialEq, Eq)]
+pub(crate) struct LabelWord {
+    pub(crate) low: u64,
+    pub(crate) high: u32,
+}
+
+// Four bytes as the digits of one number.
+fn four(part: &[u8]) -> u64
+    requires { length part.now ≡ 4 }
+    ensures { result ≡ bytes_after 0 part.now }
+{
+    u64::from(u32::from_be_bytes([part[0], part[1], part[2], part[3]]))
+}
+
+// Four to eight bytes as the digits of one number: the first four and the last four. Bytes that are among both have the
+// same place by either.
+fn four_and_more(part: &[u8]) -> u64
+    requires least { 4 ≤ length part.now }
+    requires most { length part.now ≤ FIRST }
+    ensures { result ≡ bytes_after 0 part.now }
+{
+    let more = part.len() - 4;
+    let first = four(&part[..4]);
+    let last = four(&part[more..]);
+    first << (8 * more) | last
+}
+
+// Some bytes of a label as the digits of one number.
+fn digits(part: &[u8]) -> u64
+    requires { length part.now ≤ FIRST }
+    ensures value { result ≡ bytes_after 0 part.now }
+    ensures few { length part.now ≤ 3 → result < 2 ^ 24 }
+{
+    if part.len() >= 4 {
+        return four_and_more(part);
+    }
+    let mut digits = 0u64;
+    for byte in part {
+        digits = digits * 256 + u64::from(*byte);
+    }
+    digits
+}
+
+// The word of a short label.
+fn word(label: &[u8]) -> LabelWord
+    requires { length label.now ≤ SHORT }
+    ensures { result ≡ word_of label.now }
+{
+    let (first, rest) = label.split_at(label.len().min(FIRST));
+    let low = digits(first);
+    let high = (digits(rest) * 256 + label.len() as u64 + 1) as u32;
+    LabelWord { low, high }
+}
+
+// A number that another is mixed into: each bit of it depends on many of the other's.
+fn mix(number: u64) -> u64 {
+    let mixed = number.wrapping_mul(0x9e37_79b9_7f4a_7c15);
+    mixed ^ (mixed >> 32)
+}
+
+// The word of a long label.
+fn long_word(label: &[u8]) -> LabelWord {
+    let mut low = label.len() as u64;
+    let mut rest = label;
+    for _i in 0..=label.len() / FIRST {
+        let (first, more) = rest.split_at(rest.len().min(FIRST));
+        low = mix(low ^ digits(first));
+        rest = more;
+    }
+    let high = (mix(low) >> 32) as u32 | LONG;
+    LabelWord { low, high }
+}
+
+impl LabelWord {
+    /// The word of a label.
+    pub(crate) fn of(label: &[u8]) -> LabelWord
+        ensures { IsWord label.now result }
+    {
+        if label.len() > SHORT {
+            return long_word(label);
+        }
+        word(label)
+    }
+
+    /// The word of no label: the second number of a word is never 0.
+    pub(crate) fn none() -> LabelWord {
+        LabelWord { low: 0, high: 0 }
+    }
+}

@@ -1,0 +1,13 @@
+pub mod Lists
+pub mod Links
+pub mod Order
+pub mod Edges
+pub mod Labels
+pub mod Finding
+pub mod Records
+pub mod Codes
+pub mod Counting
+pub mod Planning
+pub mod Laws
+pub mod Feeding
+pub mod Making

@@ -1,0 +1,146 @@
+//! Labels in one piece of memory, and sets of them.
+
+ghost use Rattle.std.specs.Prelude.{◌≡◌, ◌+◌, ◌^◌, ◌<◌, length, map, slice_index_or, IfOk};
+ghost use Rattle.std.specs.Prelude.{◌∷◌, ◌++◌, [], false, IfSome, IfNone, OnOk, OnErr};
+ghost use Rattle.std.specs.List.{sum_by};
+ghost use Rattle.graph.specs.Finding.{StandsAt};
+ghost use Rattle.graph.specs.Labels.{has_label, texts, with_label};
+ghost use Rattle.graph.specs.Lists.{Ascend, lists_between};
+
+use gapcode::Places;
+use indexmap::IndexSet;
+use std::alloc::{AllocError, Global};
+use std::hash::RandomState;
+use std::marker::Model;
+
+/// Labels, one after another, and the place where each begins. It takes 4 bytes a label beside the labels' own.
+#[derive(Drop)]
+pub struct Labels {
+    bytes: Vec<u8>,
+    starts: Places,
+}
+
+impl Model for Labels {
+    ghost use Rattle.std.specs.Prelude.{List, ℕ, length};
+    ghost use Rattle.graph.specs.Lists.{Ascend, lists_between};
+
+    ghost Value = { List (List ℕ) };
+
+    ghost view = { λ labels. lists_between labels.bytes.items labels.starts };
+
+    ghost invariant = { λ labels. Ascend (length labels.bytes.items) labels.starts };
+}
+
+// The number of bytes of all texts.
+fn total(texts: &[Vec<u8>]) -> usize
+    ensures { sum_by (λ text. length text.items) texts.now < 2 ^ 64
+        → result ≡ sum_by (λ text. length text.items) texts.now }
+{
+    let mut sum = 0usize;
+    for text in texts {
+        sum = sum.saturating_add(text.len());
+    }
+    sum
+}
+
+// Where the first text begins; there is room for so many others.
+fn first_start(alloc: Global, count: usize) -> Result<Places, AllocError>
+    ensures { IfOk result (λ starts. starts ≡ 0 ∷ []) }
+{
+    Places::with_room(alloc, count.saturating_add(1))?.push(0)
+}
+
+// Puts a copy of a text after the others, and where it ends after the places.
+fn put_text(bytes: &mut Vec<u8>, starts: Places, text: &[u8]) -> Result<Places, AllocError>
+    requires { Ascend (length bytes.old.items) starts }
+    ensures starts { IfOk result (λ more. Ascend (length bytes.new.items) more) }
+    ensures texts { IfOk result (λ more. lists_between bytes.new.items more
+        ≡ lists_between bytes.old.items starts ++ text.now ∷ []) }
+{
+    bytes.extend_from_slice(text)?;
+    starts.push(bytes.len() as u128)
+}
+
+// Puts copies of texts one after another, and tells where each of them begins and the last ends.
+fn put_texts(alloc: Global, bytes: &mut Vec<u8>, texts: &[Vec<u8>]) -> Result<Places, AllocError>
+    requires { bytes.old.items ≡ [] }
+    ensures starts { IfOk result (λ starts. Ascend (length bytes.new.items) starts) }
+    ensures texts { IfOk result (λ starts.
+        lists_between bytes.new.items starts ≡ map (λ text. text.items) texts.now) }
+{
+    let mut starts = first_start(alloc, texts.len())?;
+    for text in texts {
+        starts = put_text(bytes, starts, text)?;
+    }
+    Ok(starts)
+}
+
+impl Labels {
+    /// A copy of these texts, in their order.
+    pub fn of(alloc: Global, texts: &[Vec<u8>]) -> Result<Labels, AllocError>
+        ensures { IfOk result (λ labels. labels ≡ map (λ text. text.items) texts.now) }
+    {
+        let mut bytes = Vec::with_capacity(alloc, total(texts))?;
+        let starts = put_texts(alloc, &mut bytes, texts)?;
+        Ok(Labels { bytes, starts })
+    }
+
+    /// The number of labels.
+    pub fn len(&self) -> usize
+        ensures { result ≡ length self.now }
+    {
+        self.starts.len() - 1
+    }
+
+    /// Label i, or an empty one if there is none.
+    pub fn text(&self, i: u32) -> &[u8]
+        ensures { result.now ≡ slice_index_or self.now i [] }
+    {
+        if (i as usize) < self.len() {
+            self.label(i as usize)
+        } else {
+            &[]
+        }
+    }
+
+    /// Label i.
+    pub fn label(&self, i: usize) -> &[u8]
+        requires { i < length self.now }
+        ensures { result.now ≡ slice_index_or self.now i [] }
+    {
+        text_at(&self.bytes, &self.starts, i)
+    }
+}
+
+// Text i: the bytes from its start up to the next.
+fn text_at<'a>(bytes: &'a [u8], starts: &Places, i: usize) -> &'a [u8]
+    requires starts { Ascend (length bytes.now) starts.now }
+    requires below { i + 1 < length starts.now }
+    ensures { result.now ≡ slice_index_or (lists_between bytes.now starts.now) i [] }
+{
+    prove!(i < starts.len());
+    &bytes[starts.at(i) as usize..starts.at(i + 1) as usize]
+}
+
+/// The number of a label that is in the set: how many came before it.
+pub fn find_label(labels: &IndexSet<Vec<u8>, RandomState>, label: &[u8]) -> Option<usize>
+    ensures found { IfSome result (StandsAt (texts labels.now) label.now) }
+    ensures none { IfNone result (has_label (texts labels.now) label.now ≡ false) }
+{
+    labels.get_index_of(label)
+}
+
+/// Puts a label into the set, at the end if it is new, and tells its number. The error is that memory was refused; the set
+/// is then as it was.
+pub fn insert_label(
+    alloc: Global,
+    labels: &mut IndexSet<Vec<u8>, RandomState>,
+    label: &[u8],
+) -> Result<usize, AllocError>
+    ensures found { IfOk result (StandsAt (texts labels.new) label.now) }
+    ensures labels { OnOk result (texts labels.new ≡ with_label (texts labels.old) label.now) }
+    ensures kept { OnErr result (texts labels.new ≡ texts labels.old) }
+{
+    let (number, _) = labels.insert_full(Vec::from_slice(alloc, label)?)?;
+    Ok(number)
+}
