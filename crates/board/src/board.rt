@@ -23,7 +23,7 @@ use crate::seat::{Grant, Seat};
 use crate::turn::{Turn, look_at_length};
 use ball_model::{BatchName, Kept, Plan, Posted};
 use batches::Batch;
-use edgelist::Graph;
+use graph::Graph;
 use replica::Snapshot;
 use std::alloc::{AllocError, Global};
 use std::marker::Model;

@@ -20,7 +20,7 @@ use crate::error::BoardError;
 use crate::event::HistoryEvent;
 use ball_model::{BatchName, Kept, Plan, Posted};
 use batches::Batch;
-use edgelist::Graph;
+use graph::Graph;
 use replica::{Shown, Snapshot};
 use std::alloc::{AllocError, Global};
 use std::collections::BTreeMap;

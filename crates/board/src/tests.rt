@@ -17,9 +17,9 @@ mod seats;
 mod threads;
 
 use super::*;
-use ball_model::{CountingReader, Kept, Plan, Posted};
+use ball_model::{Kept, Plan, Posted};
 use batches::Batch;
-use edgelist::{Delimiter, EdgeLimits, Graph, read_edges};
+use graph::{Graph, GraphBuilder};
 use replica::{Replica, Shown, Snapshot};
 use std::alloc::{AllocGlobal, Global};
 use std::hash::RandomState;
@@ -47,14 +47,11 @@ impl Model for Setting {
 
 /// The two edges in so many partitions. Of two, a and c are in the first, and b in the second.
 fn two_edges<R: AllocGlobal + RandomSource>(rt: &R, parts: u16) -> Option<Setting> {
-    let limits = EdgeLimits {
-        vertices: 100,
-        edges: 100,
-    };
-    let edges: &[u8] = b"a\tb\nb\tc\n";
-    let state = RandomState::new(rt).ok()?;
-    let mut reader = CountingReader::new(edges);
-    let graph = read_edges(rt.alloc(), state, &mut reader, Delimiter::Tab, limits).ok()?;
+    let alloc = rt.alloc();
+    let mut builder = GraphBuilder::new(alloc, RandomState::new(rt).ok()?);
+    builder.edge(alloc, b"a", b"b").ok()?;
+    builder.edge(alloc, b"b", b"c").ok()?;
+    let graph = builder.finish(alloc).ok()?;
     let plan = graph.plan(4, 0, parts, 4096).ok()?;
     Some(Setting { graph, plan })
 }

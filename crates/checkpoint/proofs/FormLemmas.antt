@@ -9,7 +9,7 @@ use Rattle.std.proofs.lemmas.List.{length-append, take_all}
 use Rattle.std.proofs.lemmas.Nat.{from_be_bytes-to_be_bytes_2, from_be_bytes-to_be_bytes_4, from_be_bytes-to_be_bytes_8}
 use Rattle.sha2.specs.Sha256.{sha256}
 use Rattle.sha2.proofs.Facts256.{length-sha256}
-use Rattle.edgelist.proofs.LabelLemmas.{text_same}
+use Rattle.graph.proofs.LabelLemmas.{text_same}
 use Rattle.ball_model.specs.Batches.{BatchValue, batch_bytes}
 use Rattle.ball_model.specs.Checkpoint.{front_bytes, table_bytes, held_bytes, early_bytes, kept_batches, checkpoint_bytes, first_checkpoint_bytes}
 use Rattle.ball_model.specs.Job.{PartValue}

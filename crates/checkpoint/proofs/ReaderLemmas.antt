@@ -5,17 +5,15 @@ use Rattle.std.specs.Int.{w16, w64, from_be_bytes}
 use Rattle.std.specs.Io.KnownBytes.{Consumes, IsAtEnd}
 use Rattle.std.proofs.KnownBytes.{Consumes-nil, Consumes-trans}
 use Rattle.std.proofs.Math.Seq.{take-append_seam, drop-append_seam}
-use Rattle.std.proofs.lemmas.Bool.{le-ltb, lt-ltb, cases_lt}
+use Rattle.std.proofs.lemmas.Bool.{le-ltb, lt-ltb, cases_lt, and_parts, leb-true, eqb-true, cases_Bool}
 use Rattle.std.proofs.lemmas.List.{length-append, length-take, take_all, take-append-le}
-use Rattle.ball_model.specs.PlanValue.{PlanValue}
+use Rattle.ball_model.specs.PlanValue.{PlanValue, part_size}
 use Rattle.std.proofs.Math.Nat.{mul-le-mul_right, div-add-mod}
 use Rattle.std.proofs.Math.Dec.{leb, eqb}
-use Rattle.std.proofs.lemmas.Bool.{and_parts, leb-true, eqb-true, cases_Bool}
-use Rattle.ball_model.specs.PlanValue.{part_size}
 use Rattle.std.specs.Str.{bytes_eq}
 use Rattle.std.proofs.lemmas.Slice.Eq.{bytes_eq-Decides}
 use Rattle.sha2.specs.Sha256.{sha256}
-use Rattle.edgelist.proofs.LabelLemmas.{text_same}
+use Rattle.graph.proofs.LabelLemmas.{text_same}
 use Rattle.ball_model.specs.declared.streams.Filled.{Filled}
 use Rattle.ball_model.specs.declared.streams.Filled.TheVariants as filled
 use Rattle.ball_model.specs.Job.{PartValue}

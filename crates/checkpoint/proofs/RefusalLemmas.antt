@@ -12,7 +12,7 @@ use Rattle.replica.specs.Saved.{IsKeepable}
 use Rattle.replica.specs.Seen.{IsState}
 use Rattle.replica.proofs.KeptLemmas.Rise.{all_stay}
 use Rattle.replica.proofs.SeenLemmas.State.{no_sources}
-use Rattle.edgelist.proofs.RangeLemmas.{copies-at}
+use Rattle.graph.proofs.RangeLemmas.{copies-at}
 use Rattle.checkpoint.specs.declared.header.CheckpointHeader.{CheckpointHeader}
 use Rattle.checkpoint.specs.declared.error.KeepError.{KeepError}
 use Rattle.checkpoint.specs.declared.error.KeepError.TheVariants as errors

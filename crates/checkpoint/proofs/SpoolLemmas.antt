@@ -8,7 +8,7 @@ use Rattle.sha2.specs.Hashers.{Holds256}
 use Rattle.sha2.specs.Sha256.{sha256}
 use Rattle.ball_model.specs.Checkpoint.{sealed}
 use Rattle.checkpoint.specs.declared.spool.Spool.{Spool}
-use Rattle.edgelist.specs.Planning.{Hashes}
+use Rattle.graph.specs.Planning.{Hashes}
 use Rattle.checkpoint.specs.Writing.{Writes, StopsWriting}
 use Rattle.checkpoint.specs.Spooled.{PassesOn, waiting}
 use Rattle.checkpoint.proofs.DigestLemmas.{hashes_none, hashes_then}

@@ -6,7 +6,7 @@ use Rattle.ball_model.specs.Checkpoint.{without_names}
 use Rattle.ball_model.specs.Job.{Job}
 use Rattle.ball_model.specs.State.{State, KeepsTrue, content_of, early_at}
 use Rattle.replica.proofs.HearingLemmas.Hear.{none_heard}
-use Rattle.edgelist.proofs.RangeLemmas.{copies-at}
+use Rattle.graph.proofs.RangeLemmas.{copies-at}
 use Rattle.checkpoint.specs.Laws.{WithoutNamesStands}
 use Rattle.checkpoint.proofs.RefusalLemmas.{nothing_at}
 

@@ -1,7 +1,7 @@
 -- What is on its way to a writer.
 use Rattle.std.specs.Prelude.{◌≡◌, ◌++◌, ℕ, List, Option, take}
 use Rattle.checkpoint.specs.declared.spool.Spool.{Spool}
-use Rattle.edgelist.specs.Planning.{Hashes}
+use Rattle.graph.specs.Planning.{Hashes}
 use Rattle.checkpoint.specs.Writing.{Writes}
 
 -- the bytes that wait

@@ -1,7 +1,7 @@
 -- What was read, as far as there was memory for it.
 use Rattle.std.specs.Prelude.{◌≡◌, ℕ, true, List, [], ◌++◌}
 use Rattle.sha2.specs.Hashers.{Holds256}
-use Rattle.edgelist.specs.Planning.{Hashes}
+use Rattle.graph.specs.Planning.{Hashes}
 use Rattle.checkpoint.specs.declared.text.Text.{Text}
 
 -- nothing was read

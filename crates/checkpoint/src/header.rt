@@ -8,7 +8,7 @@ ghost use Rattle.checkpoint.specs.Reading.{check_checkpoint_head, checkpoint_hea
 
 use crate::error::KeepError;
 use crate::sizes::HEADER_LEN;
-use edgelist::Part;
+use graph::Part;
 
 /// `HBCK`.
 pub(crate) const MAGIC: u32 = 0x4842_434b;

@@ -24,7 +24,7 @@ use crate::sizes::HEADER_LEN;
 use crate::stream::{read_body, read_full, read_seal};
 use crate::text::Text;
 use ball_model::CountedRead;
-use edgelist::Part;
+use graph::Part;
 use replica::{Replica, Saved};
 use std::alloc::Global;
 use std::sync::Arc;

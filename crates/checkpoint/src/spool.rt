@@ -5,7 +5,7 @@ ghost use Rattle.std.specs.List.{flat_map};
 ghost use Rattle.sha2.specs.Hashers.{Holds256};
 ghost use Rattle.sha2.specs.Sha256.{sha256};
 ghost use Rattle.checkpoint.specs.declared.sizes.TheConstants.{PIECE};
-ghost use Rattle.edgelist.specs.Planning.{Hashes};
+ghost use Rattle.graph.specs.Planning.{Hashes};
 ghost use Rattle.checkpoint.specs.Writing.{Writes, StopsWriting};
 
 use crate::error::Failed;

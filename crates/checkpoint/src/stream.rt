@@ -18,7 +18,7 @@ use crate::sizes::{
 };
 use crate::text::Text;
 use ball_model::{CountedRead, Filled, Plan, fill};
-use edgelist::Part;
+use graph::Part;
 use replica::LEVELS;
 
 // The big-endian number of eight bytes at a place.

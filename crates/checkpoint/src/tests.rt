@@ -8,25 +8,37 @@ mod worked;
 mod writing;
 
 use crate::laws;
-use ball_model::CountingReader;
 use damage::are_told;
-use edgelist::{Delimiter, EdgeLimits, Graph, Part, read_edges};
 use failing::{VERTICES, are_cut, many_are_cut};
+use graph::{Graph, GraphBuilder, Part};
 use reading::{early_is_read, edges_are_read};
 use replica::Replica;
+use std::alloc::Global;
 use std::hash::RandomState;
 use std::sync::Arc;
 use worked::{TWO_EARLY, TWO_EDGES};
 
+/// Adds the vertex or the edge of a line.
+fn add_line(alloc: Global, builder: &mut GraphBuilder, line: &[u8]) -> Option<()> {
+    match line.iter().position(|byte| *byte == b'\t') {
+        Some(tab) => builder.edge(alloc, &line[..tab], &line[tab + 1..]).ok(),
+        None => {
+            if !line.is_empty() {
+                builder.vertex(alloc, line).ok()?;
+            }
+            Some(())
+        }
+    }
+}
+
 /// A graph of an edge list with tabs.
 fn graph(rt: &HostRuntime, text: &[u8]) -> Option<Graph> {
-    let limits = EdgeLimits {
-        vertices: 100,
-        edges: 100,
-    };
-    let state = RandomState::new(rt).ok()?;
-    let mut reader = CountingReader::new(text);
-    read_edges(rt.alloc(), state, &mut reader, Delimiter::Tab, limits).ok()
+    let alloc = rt.alloc();
+    let mut builder = GraphBuilder::new(alloc, RandomState::new(rt).ok()?);
+    for line in text.split(|byte| *byte == b'\n') {
+        add_line(alloc, &mut builder, line)?;
+    }
+    builder.finish(alloc).ok()
 }
 
 /// One of so many parts of a graph, at 16 registers under seed 0.

@@ -6,7 +6,7 @@ use Rattle.std.specs.contracts.impls.GlobalAllocator.TheImpl.{ghosts}
 use Rattle.std.specs.contracts.sync.Arc as arc
 use Rattle.registers.proofs.Crossing.{rows_send, rows_sync}
 use Rattle.batches.proofs.Crossing.{batch_send, batch_sync}
-use Rattle.edgelist.proofs.Crossing.{part_send, part_sync}
+use Rattle.graph.proofs.Crossing.{part_send, part_sync}
 use Rattle.figures.proofs.Crossing.{estimator_send, estimator_sync, tally_send, tally_sync}
 use Rattle.replica.specs.contracts.first.FirstTables as first
 use Rattle.replica.specs.contracts.progress.Progress as progress

@@ -9,6 +9,8 @@ pub mod HeardLemmas
 pub mod SpreadLemmas
 pub mod WaitingLemmas
 pub mod PullLemmas
+pub mod WalkLemmas
+pub mod WalkedLemmas
 pub mod SeenLemmas
 pub mod SentLemmas
 pub mod RunsLemmas

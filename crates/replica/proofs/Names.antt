@@ -28,7 +28,7 @@ pub use Rattle.registers.specs.Marks.{IsNextMarked}
 pub use Rattle.ball_model.specs.Counter.{counter_of, max_each, Mixing}
 unfoldable pub use Rattle.ball_model.specs.Counter.{ball_counter}
 pub use Rattle.figures.specs.declared.tally.Tally.{Tally}
-pub use Rattle.edgelist.proofs.RangeLemmas.{copies-at}
+pub use Rattle.graph.proofs.RangeLemmas.{copies-at}
 pub use Rattle.ball_model.specs.declared.names.BatchName.{BatchName}
 unfoldable pub use Rattle.ball_model.specs.Change.{any_changed}
 pub use Rattle.std.specs.Str.{bytes_eq}

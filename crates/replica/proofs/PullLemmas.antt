@@ -2,10 +2,11 @@
 use Rattle.std.proofs.Common.{◌≡◌, ◌≢◌, take, ℕ, suc, ◌+◌, ◌*◌, ◌/◌, ◌%◌, ◌-◌, ◌<◌, Bool, true, false, not, ◌||◌, ◌&&◌, ◌==◌, List, [], ◌∷◌, ◌++◌, map, length, get_or, set, if◌then◌else◌, refl, ap, ap₂, sym, ◌∙◌, arith, subst, inl, inr}
 use Rattle.std.proofs.lemmas.Bool.Decides.{nat_tests}
 use Rattle.std.proofs.lemmas.List.{take_more_set}
-use Rattle.std.proofs.lemmas.Slice.Eq.{bytes_eq-Decides}
-use Rattle.replica.proofs.Names.{AllByRecursion, list_any, filter, range_with_len, cases_eq, cases_lt, and_parts, and_from, or_left, or_right, ne_eqb, ◌⊎◌, eq-eqb, eqb-true, same_lists, get_or_past, get_or_default, append-nil, get_or-set_same, get_or-set_other, length-append, get_or_append_left, get_or-append_right, All, All-push, IsTrue, or_cases, take_more, filter-append, map-append, max_each, bytes_eq, Table, PartValue, IsPart}
+use Rattle.replica.proofs.Names.{AllByRecursion, list_any, filter, range_with_len, cases_eq, cases_lt, and_parts, and_from, or_left, or_right, ne_eqb, ◌⊎◌, eq-eqb, eqb-true, same_lists, get_or_past, get_or_default, append-nil, get_or-set_same, get_or-set_other, length-append, get_or_append_left, get_or-append_right, All, All-push, IsTrue, or_cases, filter-append, map-append, max_each, bytes_eq, Table, PartValue, IsPart}
 use Rattle.registers.specs.Laws.{max_each-commutes, max_each-associates, max_each-repeats}
 use Rattle.ball_model.specs.Table.{pieces}
+pub use Rattle.registers.proofs.RaisedLemmas.{raised-here}
+use Rattle.registers.proofs.RaisedLemmas.{raised-above, raised-append, raised-last, raised_by_more}
 use Rattle.registers.proofs.TableLemmas.{length-pieces, pieces-append, with_all_cells}
 use Rattle.replica.specs.Spread.{touched_at, stands_in, row_after, rows_after, rows_after_all, marked_rows, own_rows}
 use Rattle.std.proofs.lemmas.Nat.{div-mul-add}
@@ -13,7 +14,7 @@ use Rattle.ball_model.proofs.PathLemmas.{any_filter, any_range, range_any}
 use Rattle.replica.specs.Index.{targets_of}
 use Rattle.replica.proofs.IndexLemmas.Own.{own_part, vertex_at}
 use Rattle.replica.proofs.IndexLemmas.Target.{targets-in, targets-none}
-use Rattle.replica.proofs.SpreadLemmas.{above_stays, length-spread, spread-at, still_marked, to_in, to_out}
+use Rattle.replica.proofs.SpreadLemmas.{length-spread, spread-at, still_marked, to_in, to_out}
 use Rattle.replica.proofs.HeardLemmas.{own_stands}
 use Rattle.replica.specs.Heard.{SpreadsOwn, StayTouched}
 use Rattle.registers.specs.Lending.{with_cells}
@@ -36,12 +37,6 @@ raised-both : (row : List ℕ) (xs ys : List (List ℕ)) → raised_over (raised
 unfolding raised_over
 raised-both row xs [] = refl
 raised-both row xs (y ∷ ys) = ap (λ a. raised_over a ys) (raised-one row y xs) ∙ raised-both (max_each row y) xs ys
-
--- by more
-pub raised-append : (row : List ℕ) (xs ys : List (List ℕ)) → raised_over row (xs ++ ys) ≡ raised_over (raised_over row xs) ys
-unfolding raised_over
-raised-append row [] ys = refl
-raised-append row (x ∷ xs) ys = raised-append (max_each row x) xs ys
 
 raised_again : (row other : List ℕ) → max_each (max_each row other) other ≡ max_each row other
 raised_again row other = max_each-associates row other other ∙ ap (max_each row) (max_each-repeats other)
@@ -91,7 +86,7 @@ passing_more true P f test x ks e here rest = subst (λ l. AllByRecursion P l) (
 passing_more false P f test x ks e here rest = subst (λ l. AllByRecursion P l) (sym (filter_more f test x ks false e)) rest
 
 -- what holds of each that passes holds of all that do
-all_passing : (P : List ℕ → Type 0) (f : ℕ → List ℕ) (test : ℕ → Bool) (ks : List ℕ) → ((k : ℕ) → list_any (λ y. y == k) ks ≡ true → test k ≡ true → P (f k)) → AllByRecursion P (map f (filter test ks))
+pub all_passing : (P : List ℕ → Type 0) (f : ℕ → List ℕ) (test : ℕ → Bool) (ks : List ℕ) → ((k : ℕ) → list_any (λ y. y == k) ks ≡ true → test k ≡ true → P (f k)) → AllByRecursion P (map f (filter test ks))
 all_passing P f test [] each = tt
 all_passing P f test (x ∷ ks) each =
     passing_more (test x) P f test x ks refl (each x (or_left (x == x) (list_any (λ y. y == x) ks) (eq-eqb x x refl)))
@@ -328,14 +323,8 @@ pulled-is_spread part own marks old new is count pulled =
     ∙ sym (get_or_default (rows_after_all (targets_of part) (map (λ k. (v k, get_or own k [])) ks) old) i d [] (omega (arith, length-spread_all (targets_of part) (map (λ k. (v k, get_or own k [])) ks) old, inside))))
 
 -- ---- which rows it touches
--- an accumulator that is above a row stays so
-raised-above : (row acc : List ℕ) (others : List (List ℕ)) → max_each row acc ≡ acc → max_each row (raised_over acc others) ≡ raised_over acc others
-unfolding raised_over
-raised-above row acc [] above = above
-raised-above row acc (other ∷ rest) above = raised-above row (max_each acc other) rest (above_stays row acc other above)
-
--- and whether it differs from the row is whether it did or was raised
-raised-marked : (row acc new : List ℕ) (others : List (List ℕ)) → max_each row acc ≡ acc → new ≡ raised_over acc others → (not (bytes_eq acc row) || not (bytes_eq new acc)) ≡ not (bytes_eq new row)
+-- whether an accumulator that is above a row differs from it is whether it did or was raised
+pub raised-marked : (row acc new : List ℕ) (others : List (List ℕ)) → max_each row acc ≡ acc → new ≡ raised_over acc others → (not (bytes_eq acc row) || not (bytes_eq new acc)) ≡ not (bytes_eq new row)
 raised-marked row acc new others above is =
     let over : max_each acc new ≡ new = rw is (raised-above acc acc others (max_each-repeats acc)) in
     let marked = still_marked row acc new above in
@@ -349,23 +338,10 @@ raised-still row x xs same =
     sym above ∙ max_each-commutes row a ∙ ap (max_each a) (sym same) ∙ raised_last a x ∙ same
 
 -- ---- a row that is raised by those at some places
--- the rows at the first places, one place more
-rows-more : (rows : List (List ℕ)) (places : List ℕ) (k : ℕ) → k < length places → rows_at rows (take (k + 1) places) ≡ rows_at rows (take k places) ++ get_or rows (get_or places k 0) [] ∷ []
-rows-more rows places k lt = ap (rows_at rows) (take_more places k 0 lt) ∙ map-append (λ p. get_or rows p []) (take k places) (get_or places k 0 ∷ [])
-
-raised-last : (row x : List ℕ) (xs : List (List ℕ)) → raised_over row (xs ++ x ∷ []) ≡ max_each (raised_over row xs) x
-unfolding raised_over
-raised-last row x xs = raised-append row xs (x ∷ [])
-
 -- a row raised by the first places, and by one more
 pub raised-more : (rows : List (List ℕ)) (row places : List ℕ) (k : ℕ) → k < length places →
     max_each (raised_over row (rows_at rows (take k places))) (get_or rows (get_or places k 0) []) ≡ raised_over row (rows_at rows (take (k + 1) places))
-raised-more rows row places k lt =
-    sym (raised-last row (get_or rows (get_or places k 0) []) (rows_at rows (take k places))) ∙ ap (raised_over row) (sym (rows-more rows places k lt))
-
-pub raised-here : (row : List ℕ) → raised_over row [] ≡ row
-unfolding raised_over
-raised-here row = refl
+raised-more rows row places k lt = raised_by_more (λ place. get_or rows place []) row places k 0 lt
 
 -- one that is seen to raise a row does so behind the others
 pub seen-more : (seen now : Bool) (rows : List (List ℕ)) (row places : List ℕ) (k : ℕ) → k < length places →
@@ -379,10 +355,6 @@ seen-more seen now rows row places k lt before here any same =
       | inl was ↦ before was still
       | inr is ↦ here is (ap (λ a. max_each a x) (sym still) ∙ new)
     ]
-
--- what was seen changes nothing of what is told
-pub seen-told : (told seen : Bool) (new old : List ℕ) → told ≡ not (bytes_eq new old) → (IsTrue seen → new ≢ old) → (told || seen) ≡ not (bytes_eq new old)
-seen-told told seen new old tells rises = grind (arith, bytes_eq-Decides)
 
 -- ---- places that wait
 -- one more waits

@@ -10,10 +10,10 @@ use Rattle.replica.proofs.LevelLemmas.Step.{all_stepped}
 use Rattle.replica.proofs.LevelLemmas.Weight.{weights_are, weights_count}
 
 -- ---- two halves
-in_last : {X : Type 0} (xs ys zs : List X) (m k : ℕ) (d : X) → xs ≡ ys ++ zs → length ys ≡ m → get_or xs (m + k) d ≡ get_or zs k d
+pub in_last : {X : Type 0} (xs ys zs : List X) (m k : ℕ) (d : X) → xs ≡ ys ++ zs → length ys ≡ m → get_or xs (m + k) d ≡ get_or zs k d
 in_last xs ys zs m k d all long = ap (λ l. get_or l (m + k) d) all ∙ ap (λ j. get_or (ys ++ zs) (j + k) d) (sym long) ∙ get_or-append-add ys zs k d
 
-in_first : {X : Type 0} (xs ys zs : List X) (k : ℕ) (d : X) → xs ≡ ys ++ zs → k < length ys → get_or xs k d ≡ get_or ys k d
+pub in_first : {X : Type 0} (xs ys zs : List X) (k : ℕ) (d : X) → xs ≡ ys ++ zs → k < length ys → get_or xs k d ≡ get_or ys k d
 in_first xs ys zs k d all lt = ap (λ l. get_or l k d) all ∙ get_or_append_left ys zs d k lt
 
 pub first_can_step : (m : Measure) (t : ℕ) (old new : Table) (from : ℕ) (marks first last : List Bool) (own front back : List ℕ) (tallies low high : List TallyValue) → CanStepBlock m t old new from marks own tallies →

@@ -1,6 +1,6 @@
 -- A replica's tables, and what is heard beside them, one superstep further.
 use Rattle.std.proofs.Common.{◌≡◌, ℕ, ◌+◌, ◌^◌, ◌<◌, ◌≤◌, ◌++◌, ◌∷◌, List, [], length, refl, ap, ap₂, sym, ◌∙◌, subst, arith, inl}
-use Rattle.replica.proofs.Names.{Option, arc_value, sum_by, BatchValue, TallyValue, Measure, PlanValue, measure_of, State, is_heard, Table}
+use Rattle.replica.proofs.Names.{Option, PartValue, arc_value, sum_by, BatchValue, TallyValue, Measure, PlanValue, measure_of, State, is_heard, Table}
 use Rattle.ball_model.specs.declared.names.Verdict.TheVariants as verdict
 use Rattle.replica.specs.declared.progress.Progress.TheInside as progress
 use Rattle.replica.specs.Ahead.{IsTable}
@@ -11,7 +11,7 @@ use Rattle.replica.specs.Kept.{AreEarly, AreOfPlan}
 use Rattle.replica.specs.Level.{differences, level_verdict, total_of, weights_of}
 use Rattle.replica.specs.Progress.{ProgressValue}
 use Rattle.replica.specs.Seen.{HoldsTogether, IsProgress, progress_of, state_of}
-use Rattle.replica.specs.Tables.{AreAhead, CanBeStepped, CanHearOwn, CanStep, HearsOwn, NextTables, TablesValue}
+use Rattle.replica.specs.Tables.{AreAhead, CanBeStepped, CanGoFurther, CanHearOwn, CanStep, HearsOwn, NextTables, TablesValue}
 use Rattle.replica.proofs.HearingLemmas.Accumulator.{Keeps, can_go_on, fields_are, fields_of, going_keeps, kept_progress}
 use Rattle.replica.proofs.ChangeLemmas.Advance.{same_early}
 use Rattle.replica.proofs.HearingLemmas.Hearing.{differ_where, hears_quiet}
@@ -78,11 +78,25 @@ pub can_step : (r : progress.Inside) (v : State) (targets : List (List ℕ)) (m 
 can_step r v targets m own weights g ahead =
     grind (arith, few (fields_of r) g.keeps.state)
 
+-- both at once
+pub can_go_further : (r : progress.Inside) (v : State) (targets : List (List ℕ)) (m : Measure) (weights : List ℕ) → Goes r v targets m weights → CanGoFurther (arc_value r.part) m r.superstep r.tables r.hearing weights
+can_go_further r v targets m weights g =
+    let hear = can_hear_own r v targets m weights g in
+    record {
+      hear = rw (← g.index) hear;
+      step = can_step r v targets m r.hearing weights g hear.ahead;
+      log2m = ap (λ (a : Measure). a.log2m) g.measure;
+    }
+
 -- and what it is then
 pub record Advanced (r : progress.Inside) (v : State) (targets : List (List ℕ)) (m : Measure) (weights : List ℕ) : Type 0 where
   pub limits : IsProgress r
   pub advances : Advances v (state_of r)
   pub goes_on : HoldsTogether (progress_of r) targets m weights
+
+-- what is heard by the index of the part is heard by the index
+pub by_index : {part : PartValue} {targets : List (List ℕ)} {a : TablesValue} {h own : HearingValue} → targets ≡ targets_of part → HearsOwn part (targets_of part) a h own → HearsOwn part targets a h own
+by_index {part} {targets} {a} {h} {own} is heard = subst (λ (l : List (List ℕ)). HearsOwn part l a h own) (sym is) heard
 
 -- before the batches of the new superstep are heard
 pub can_hear_next : (r : progress.Inside) (v : State) (plan : PlanValue) (targets : List (List ℕ)) (m : Measure) (b : TablesValue) (own quiet : HearingValue) (before weights : List ℕ) → Goes r v targets m before → plan ≡ (arc_value r.part).plan →

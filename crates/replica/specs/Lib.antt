@@ -18,5 +18,6 @@ pub mod Waiting
 pub mod Saved
 pub mod Progress
 pub mod Pull
+pub mod Walk
 pub mod Relay
 pub mod RelayLaws

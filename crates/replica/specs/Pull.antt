@@ -1,22 +1,13 @@
 -- Rows of own vertices, raised by those of their own predecessors that are marked (HyperBall 2013).
-use Rattle.std.specs.Prelude.{◌≡◌, ℕ, ◌+◌, ◌*◌, ◌/◌, ◌%◌, ◌<◌, ◌≤◌, Bool, false, not, ◌&&◌, ◌==◌, List, [], ◌∷◌, map, length, slice_index_or}
+use Rattle.std.specs.Prelude.{◌≡◌, ℕ, ◌+◌, ◌*◌, ◌/◌, ◌%◌, ◌<◌, ◌≤◌, Bool, false, not, ◌&&◌, ◌==◌, List, [], map, length, slice_index_or}
 use Rattle.std.specs.List.{All, filter}
 use Rattle.std.specs.Str.{bytes_eq}
-use Rattle.ball_model.specs.Counter.{max_each}
 use Rattle.ball_model.specs.Job.{PartValue}
 use Rattle.ball_model.specs.Table.{Table, pieces}
+unfoldable pub use Rattle.registers.specs.Raised.{raised_over}
+pub use Rattle.registers.specs.Raised.{rows_at}
 use Rattle.registers.specs.Shape.{piece_at, with_piece}
-use Rattle.replica.specs.Index.{targets_of}
-use Rattle.replica.specs.Spread.{CanSpreadOwn, touched_at}
-
--- a row, raised by others one after the other
-unfoldable pub raised_over : List ℕ → List (List ℕ) → List ℕ
-raised_over row [] = row
-raised_over row (other ∷ rest) = raised_over (max_each row other) rest
-
--- the rows at these places
-abbrev pub rows_at : List (List ℕ) → List ℕ → List (List ℕ)
-rows_at rows places = map (λ place. slice_index_or rows place []) places
+use Rattle.replica.specs.Spread.{touched_at}
 
 -- a row can be raised by those at these places
 pub record CanRaiseBy (own : Table) (places row : List ℕ) : Type 0 where
@@ -105,10 +96,3 @@ pub record CanPullOwn (part : PartValue) (own : Table) (marks : List Bool) (rows
   pub width : rows.width ≡ own.width
   pub count : length rows.rows ≡ length part.preds
   pub each : length touched ≡ length part.preds
-
--- the own rows can be heard by the index and by predecessors, whichever is chosen
-pub record CanHearRows (targets : List (List ℕ)) (part : PartValue) (own : Table)
-    (marks : List Bool) (rows : Table) (touched : List Bool) : Type 0 where
-  pub index : targets ≡ targets_of part
-  pub spread : CanSpreadOwn targets part own marks rows touched
-  pub count : length rows.rows ≡ length part.preds

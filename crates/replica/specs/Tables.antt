@@ -11,6 +11,7 @@ use Rattle.registers.specs.Joined.{AreSameShape}
 use Rattle.registers.specs.Differ.{DifferWhere}
 use Rattle.replica.specs.Heard.{OwnIsHeard}
 use Rattle.replica.specs.Hearing.{HearingValue, IsQuiet, KeepsAll}
+use Rattle.replica.specs.Index.{targets_of}
 use Rattle.replica.specs.Kept.{AllRise, AreCounters, AreLasts, AreSums}
 use Rattle.replica.specs.Level.{differences, next_tally, next_tallies, total_of, weights_of}
 use Rattle.replica.specs.Relay.{Marked}
@@ -146,3 +147,17 @@ pub record HearsOwn (part : PartValue) (targets : List (List ℕ)) (a : TablesVa
   pub stands : OwnIsHeard targets part a.rows.rows a.marks h.accumulated.rows g.accumulated.rows
   pub heard : g.heard ≡ h.heard
   pub change : g.change ≡ h.change
+
+-- the tables of superstep t can hear what changed in the own partition, and go on
+pub record CanGoFurther (part : PartValue) (m : Measure) (t : ℕ) (a : TablesValue) (h : HearingValue)
+    (own : List ℕ) : Type 0 where
+  pub hear : CanHearOwn part (targets_of part) a h
+  pub step : CanStep m t a h own
+  pub log2m : m.log2m ≡ part.plan.log2m
+
+-- they have heard it, and then went on
+pub record GoFurther (part : PartValue) (m : Measure) (t : ℕ) (a b : TablesValue) (h g : HearingValue)
+    (own : List ℕ) : Type 0 where
+  pub between : HearingValue
+  pub hears : HearsOwn part (targets_of part) a h between
+  pub next : NextTables m t a b between g own

@@ -6,19 +6,20 @@ ghost use Rattle.replica.specs.Hearing.{BeginsSuperstep, CanFill, CanHear, CanJo
 ghost use Rattle.replica.specs.Hearing.{CanRenew, Renews, Fills, HearsAlso, HearsEarly, IsQuiet};
 ghost use Rattle.replica.specs.Hearing.{HearsByIndex, KeepsAllOrNone, SaysSame};
 ghost use Rattle.replica.specs.Hearing.{accumulators_of, batch_by};
-ghost use Rattle.replica.specs.Index.{targets_of};
 ghost use Rattle.replica.specs.Level.{differences};
 ghost use Rattle.replica.specs.Tables.{CanHearOwn, HearsOwn};
+ghost use Rattle.replica.specs.Walk.{CanWalk, Walks};
 
 use crate::early::{Early, LEVELS};
-use crate::level::{self, Team};
-use crate::pull::hear_rows;
+use crate::level;
+use crate::relay::{Relay, Tallies};
 use crate::spread::{Own, spread_batch, spread_own};
 use crate::tables::Tables;
 use crate::targets::Targets;
+use crate::walk::Walk;
 use ball_model::Plan;
 use batches::Batch;
-use edgelist::Part;
+use graph::Part;
 use registers::{Join, Rows, SourceMask};
 use std::alloc::{AllocError, Global};
 use std::marker::Model;
@@ -183,26 +184,26 @@ impl Hearing {
         spread_own(&own, &mut self.accumulated, &mut self.touched);
     }
 
-    /// The own rows that changed are heard as [`Hearing::hear_own`] hears them, in several threads if that takes less
-    /// time.
-    pub fn hear_own_by<R: Threads + Sync>(
+    /// The own rows that changed are heard as [`Hearing::hear_own`] hears them, by 2^depth threads, and figures become
+    /// those of what is accumulated then, in one walk. The answer is what the sum of the last estimates has gained.
+    pub fn hear_and_step<R: Threads + Sync>(
         &mut self,
-        team: &Team<'_, R>,
-        targets: &Targets,
-        part: &Part,
-        tables: &Tables,
-    )
-        requires index { targets.now ≡ targets_of part.now }
-        requires can { CanHearOwn part.now targets.now tables.now self.old }
-        ensures { HearsOwn part.now targets.now tables.now self.old self.new }
+        rt: &R,
+        walk: &Walk<'_>,
+        tallies: &mut Relay<Tallies>,
+        weights: &mut [u64],
+    ) -> u128
+        requires { CanWalk walk.now.estimator.now walk.now.t walk.now.pull.part.now
+            walk.now.pull.rows.now walk.now.pull.marks.now self.old.accumulated
+            self.old.touched weights.old tallies.old }
+        ensures walks { Walks walk.now.estimator.now walk.now.t walk.now.pull.part.now
+            walk.now.pull.rows.now walk.now.pull.marks.now self.old.accumulated
+            self.new.accumulated self.old.touched self.new.touched tallies.old tallies.new
+            weights.new result }
+        ensures heard { self.new.heard ≡ self.old.heard }
+        ensures change { self.new.change ≡ self.old.change }
     {
-        let own = Own {
-            targets: &*targets,
-            part: &*part,
-            rows: tables.rows(),
-            marks: tables.marks(),
-        };
-        hear_rows(team, &own, &mut self.accumulated, &mut self.touched);
+        tallies.walk(rt, walk, &mut self.accumulated, &mut self.touched, weights)
     }
 
     /// Begins the next superstep, once what is accumulated has become the rows: those are marked that this has changed,

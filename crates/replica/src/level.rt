@@ -8,15 +8,17 @@ ghost use Rattle.replica.specs.Level.{AreAsMany, differences};
 ghost use Rattle.replica.specs.Tables.{AreStepped, CanBeStepped, CanStepMarked, CanStepRow};
 ghost use Rattle.replica.specs.Tables.{IsStepped, rows_before};
 
+use crate::pull::Sizes;
 use crate::relay::{Behind, Relay};
 use figures::{Estimator, Tally, moved_weight};
 use registers::{Rows, next_marked};
 
-/// Threads that work on a superstep: those of a runtime, and how many are asked for.
+/// Threads that work on a superstep: those of a runtime, how many are asked for, and from which sizes on they work.
 #[derive(Drop)]
 pub struct Team<'a, R> {
     pub rt: &'a R,
     pub threads: usize,
+    pub sizes: Sizes,
 }
 
 /// The superstep that is closed, and how estimates are made.
@@ -95,7 +97,7 @@ fn step_marked(
     while i < tallies.len() {
         let (row, next) = (row_before(before, rows, i), step.ahead.row(i));
         let (weight, tally) = (&mut weights[i], &mut tallies[i]);
-        gain += step_tally(step, row, next, weight, tally);
+        gain += step_tally(step.estimator, step.t, row, next, weight, tally);
         rows.put(i, next);
         i = next_marked(step.marks, i + 1);
     }
@@ -114,23 +116,23 @@ fn row_before<'a>(before: &'a Option<Behind<Rows>>, rows: &'a Relay<Rows>, i: us
     }
 }
 
-/// The figures of a row that has become the one ahead; the answer is what its estimate has gained.
+/// The figures of a row that has become the one ahead at superstep `t`; the answer is what its estimate has gained.
 #[inline(always)]
 pub fn step_tally(
-    step: &Step<'_>,
+    estimator: &Estimator,
+    t: u32,
     row: &[u8],
     ahead: &[u8],
     weight: &mut u64,
     tally: &mut Tally,
 ) -> u128
-    requires { CanStepRow step.now.estimator.now step.now.t row.now ahead.now weight.old
-        tally.old.last }
-    ensures { IsStepped step.now.estimator.now step.now.t ahead.now (value_of tally.old)
-        (value_of tally.new) weight.new result }
+    requires { CanStepRow estimator.now t row.now ahead.now weight.old tally.old.last }
+    ensures { IsStepped estimator.now t ahead.now (value_of tally.old) (value_of tally.new)
+        weight.new result }
 {
     let before = tally.last;
-    *weight = moved_weight(step.estimator.log2m(), *weight, row, ahead);
-    tally.step(step.t, step.estimator.estimate_of(*weight));
+    *weight = moved_weight(estimator.log2m(), *weight, row, ahead);
+    tally.step(t, estimator.estimate_of(*weight));
     u128::from(tally.last - before)
 }
 

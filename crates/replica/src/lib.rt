@@ -56,6 +56,7 @@ mod tables;
 mod targets;
 mod telling;
 mod waiting;
+mod walk;
 
 pub use early::LEVELS;
 pub use first::FirstTables;

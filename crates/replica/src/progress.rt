@@ -14,7 +14,7 @@ use crate::early::Early;
 use crate::hearing::Hearing;
 use crate::tables::Tables;
 use ball_model::Plan;
-use edgelist::Part;
+use graph::Part;
 use std::marker::Model;
 use std::sync::Arc;
 

@@ -4,27 +4,23 @@
 //! vertex: each accumulator is written by one thread alone, so that threads share nothing that is written.
 
 ghost use Rattle.std.specs.Prelude.{◌≡◌, ◌≢◌, ◌+◌, ◌*◌, ◌/◌, ◌%◌, ◌^◌, ◌<◌, ◌≤◌, IsTrue, length};
-ghost use Rattle.std.specs.Thread.{IsSync};
 ghost use Rattle.registers.specs.Shape.{piece_at};
-ghost use Rattle.replica.specs.Heard.{SpreadsOwn};
-ghost use Rattle.replica.specs.Index.{targets_of};
-ghost use Rattle.replica.specs.Pull.{CanPullBlock, CanPullOwn, CanPullRow, PullsBlock, PullsPiece};
-ghost use Rattle.replica.specs.Pull.{CanHearRows, CanRaiseBy, PullsRow, RaisesBy};
+ghost use Rattle.replica.specs.Pull.{CanPullRow, CanRaiseBy, PullsPiece, PullsRow, RaisesBy};
 ghost use Rattle.replica.specs.Pull.{is_told, raised_over, rows_at};
+ghost use Rattle.replica.specs.declared.pull.TheConstants.{MOST_HALVINGS};
 
 use crate::level::{Team, count_set};
-use crate::spread::{Own, spread_own};
-use edgelist::Part;
-use registers::{LINE, Rows, glance_over, max_into};
-use std::thread::{Threads, available_parallelism, join_mut};
+use graph::Part;
+use registers::{LINE, Rows, glance_over, max_into, raise_by_eight};
+use std::thread::{Threads, available_parallelism};
 
 // Below so many bytes of registers that changed, and below as many rows as are many, threads cost more than they save.
 const FEW: usize = 1 << 23;
 
-// From so many bytes of rows on threads have blocks to choose from. What is beside the registers of a row counts as some
-// bytes more.
+// From so many bytes of rows on threads have blocks to choose from.
 const MANY: usize = 1 << 24;
 
+// What is beside the registers of a row counts as so many bytes more.
 const BESIDE: usize = 64;
 
 // What an edge costs, in instructions: to decode it; to raise a row by another one, and three quarters of one for each
@@ -42,8 +38,27 @@ const MOST_THREADS: usize = 1024;
 // How often rows are halved for so many.
 const MOST_HALVINGS: u32 = 10;
 
-// How many rows are glanced at before the first of them raises another one.
+// How many rows raise another one at once. Fewer are glanced at before the first of them does.
 const AHEAD: usize = 8;
+
+/// From which sizes on threads work on rows.
+#[derive(Clone, Copy, Drop)]
+pub struct Sizes {
+    /// Below so many bytes of registers that changed, and below as many rows as are many, no thread is started.
+    pub few: usize,
+    /// From so many bytes of rows on there are more blocks than threads.
+    pub many: usize,
+}
+
+impl Sizes {
+    /// Those from which on threads save more than they cost.
+    pub fn usual() -> Sizes {
+        Sizes {
+            few: FEW,
+            many: MANY,
+        }
+    }
+}
 
 // The place of vertex `z` in its partition, and the number of this. A division takes longer than the branch.
 #[inline(always)]
@@ -98,14 +113,18 @@ fn raise_by_each(rows: &Rows, places: &[u32], row: &mut [u8]) -> bool
     raised
 }
 
-// A row becomes the maximum of itself and of those at these places, with a glance at all of them first; the answer is
-// whether it changed.
+// A row becomes the maximum of itself and of those at these places, of eight at once, or with a glance at all of fewer
+// first; the answer is whether it changed.
 fn raise_by(rows: &Rows, places: &[u32], row: &mut [u8]) -> bool
     requires { CanRaiseBy rows.now places.now row.old }
     ensures { RaisesBy rows.now.rows places.now row.old row.new result }
 {
-    let seen = is_seen_raised(rows, places, row);
-    raise_by_each(rows, places, row) | seen
+    if places.len() == AHEAD {
+        raise_by_eight(rows, places, row)
+    } else {
+        let seen = is_seen_raised(rows, places, row);
+        raise_by_each(rows, places, row) | seen
+    }
 }
 
 // The row of own vertex `i` becomes the maximum of itself and of the rows of its own predecessors that are marked; the
@@ -132,17 +151,17 @@ fn pull_row(part: &Part, rows: &Rows, marks: &[bool], i: u32, row: &mut [u8]) ->
     raised | raise_by(rows, &waiting[..count], row)
 }
 
-// The own rows, a mark for each, and the part that they are of: they are pulled by blocks that are halved so often.
+/// The own rows, a mark for each, and the part that they are of: they are pulled by blocks that are halved so often.
 #[derive(Clone, Copy, Drop)]
-struct Pull<'a> {
-    part: &'a Part,
-    rows: &'a Rows,
-    marks: &'a [bool],
-    depth: u32,
+pub struct Pull<'a> {
+    pub part: &'a Part,
+    pub rows: &'a Rows,
+    pub marks: &'a [bool],
+    pub depth: u32,
 }
 
-// The k-th of the rows from own vertex `from` on is pulled; the answer is whether it changed.
-fn pull_piece(pull: &Pull<'_>, from: usize, k: usize, cells: &mut [u8]) -> bool
+/// The k-th of the rows from own vertex `from` on is pulled; the answer is whether it changed.
+pub fn pull_piece(pull: &Pull<'_>, from: usize, k: usize, cells: &mut [u8]) -> bool
     requires within { k * pull.now.rows.now.width + pull.now.rows.now.width ≤ length cells.old }
     requires can { CanPullRow pull.now.part.now pull.now.rows.now pull.now.marks.now (from + k)
         (piece_at pull.now.rows.now.width k cells.old) }
@@ -157,21 +176,8 @@ fn pull_piece(pull: &Pull<'_>, from: usize, k: usize, cells: &mut [u8]) -> bool
     pull_row(part, rows, marks, i, &mut cells[start..start + width])
 }
 
-// Rows from own vertex `from` on are pulled, one after the other, and each that this changes is marked.
-fn pull_block(pull: &Pull<'_>, from: usize, cells: &mut [u8], touched: &mut [bool])
-    requires { CanPullBlock pull.now.part.now pull.now.rows.now pull.now.marks.now from
-        cells.old touched.old }
-    ensures { PullsBlock pull.now.part.now pull.now.rows.now pull.now.marks.now from
-        cells.old cells.new touched.old touched.new }
-{
-    for k in 0..touched.len() {
-        let raised = pull_piece(pull, from, k, cells);
-        touched[k] |= raised;
-    }
-}
-
-// How many of the own vertices from `from` on, of which there are so many, have about half of their edges.
-fn middle(part: &Part, from: usize, count: usize) -> usize
+/// How many of the own vertices from `from` on, of which there are so many, have about half of their edges.
+pub fn middle(part: &Part, from: usize, count: usize) -> usize
     requires { from + count ≤ length part.now.preds }
     ensures { result ≤ count }
 {
@@ -179,106 +185,19 @@ fn middle(part: &Part, from: usize, count: usize) -> usize
     part.middle(from as u32, (from + count) as u32) as usize - from
 }
 
-// Does what `pull_block` does, by halves of halves, each in a thread of its own if one can be made.
-#[cycle(halves)]
-fn pull_halves<R: Threads + Sync>(
-    rt: &R,
-    pull: &Pull<'_>,
-    from: usize,
-    cells: &mut [u8],
-    touched: &mut [bool],
-)
-    requires { CanPullBlock pull.now.part.now pull.now.rows.now pull.now.marks.now from
-        cells.old touched.old }
-    ensures { PullsBlock pull.now.part.now pull.now.rows.now pull.now.marks.now from
-        cells.old cells.new touched.old touched.new }
-{
-    if pull.depth == 0 {
-        pull_block(pull, from, cells, touched);
-    } else {
-        let half = Pull {
-            part: pull.part,
-            rows: pull.rows,
-            marks: pull.marks,
-            depth: pull.depth - 1,
-        };
-        pull_both(rt, &half, from, cells, touched);
-    }
-}
-
-// The two halves, side by side.
-#[cycle(halves)]
-fn pull_both<R: Threads + Sync>(
-    rt: &R,
-    half: &Pull<'_>,
-    from: usize,
-    cells: &mut [u8],
-    touched: &mut [bool],
-)
-    requires { CanPullBlock half.now.part.now half.now.rows.now half.now.marks.now from
-        cells.old touched.old }
-    ensures { PullsBlock half.now.part.now half.now.rows.now half.now.marks.now from
-        cells.old cells.new touched.old touched.new }
-{
-    let mid = middle(half.part, from, touched.len());
-    let up = from + mid;
-    let (front, back) = cells.split_at_mut(mid * half.rows.width());
-    let (first, last) = touched.split_at_mut(mid);
-    let mut left = ||
-        requires { IsSync R.row × CanPullBlock half.now.part.now half.now.rows.now
-            half.now.marks.now from front.now first.now }
-        ensures { PullsBlock half.entry.now.part.now half.entry.now.rows.now
-            half.entry.now.marks.now from front.entry.now front.exit.now first.entry.now
-            first.exit.now }
-    { pull_halves(rt, half, from, front, first) };
-    let mut right = ||
-        requires { IsSync R.row × CanPullBlock half.now.part.now half.now.rows.now
-            half.now.marks.now up back.now last.now }
-        ensures { PullsBlock half.entry.now.part.now half.entry.now.rows.now
-            half.entry.now.marks.now up back.entry.now back.exit.now last.entry.now
-            last.exit.now }
-    { pull_halves(rt, half, up, back, last) };
-    join_mut(rt, &mut left, &mut right);
-}
-
-/// Pulls all own rows: each becomes the maximum of itself and of the rows of its own predecessors that are marked, and
-/// each that this changes is marked. So it does what [`crate::spread::spread_own`] does, in 2^depth threads.
-///
-/// It takes no memory but that of the threads, and time in proportion to the edges to own vertices, over the
-/// processors.
-pub fn pull_own<R: Threads + Sync>(
-    rt: &R,
-    depth: u32,
-    own: &Own<'_>,
-    accumulated: &mut Rows,
-    touched: &mut [bool],
-)
-    requires { CanPullOwn own.now.part.now own.now.rows.now own.now.marks.now
-        accumulated.old touched.old }
-    ensures { SpreadsOwn (targets_of own.now.part.now) own.now.part.now own.now.rows.now.rows
-        own.now.marks.now accumulated.old accumulated.new touched.old touched.new }
-{
-    own.part.limits();
-    let pull = Pull {
-        part: own.part,
-        rows: own.rows,
-        marks: own.marks,
-        depth,
-    };
-    pull_halves(rt, &pull, 0, accumulated.cells_mut(), touched);
-}
-
-// How often rows are halved for a team, of whose threads at most 1,024 count: into no more blocks than threads, or, if all
-// processors are to work on many rows, into four times as many, up to 1,024, since blocks take unequal times.
-fn halvings<R: Threads>(team: &Team<'_, R>, width: usize, marks: &[bool]) -> u32
+/// How often rows are halved for a team, of whose threads at most 1,024 count: into no more blocks than threads, or, if
+/// all processors are to work on many rows, into four times as many, up to 1,024, since blocks take unequal times.
+pub fn halvings<R: Threads>(team: &Team<'_, R>, width: usize, marks: &[bool]) -> u32
     requires { width < 2 ^ 16 }
+    ensures { result ≤ MOST_HALVINGS }
 {
     let whole = usize::BITS - (team.threads.min(MOST_THREADS) / 2).leading_zeros();
-    match available_parallelism(team.rt) {
+    let halved = match available_parallelism(team.rt) {
         Ok(processors) if team.threads < processors.get() => whole,
-        _ if are_marked(marks, many_rows(width)) => (whole + BLOCKS).min(MOST_HALVINGS),
+        _ if are_marked(marks, many_rows(team.sizes, width)) => whole + BLOCKS,
         _ => whole,
-    }
+    };
+    halved.min(MOST_HALVINGS)
 }
 
 // Whether at least so many rows are marked.
@@ -287,60 +206,39 @@ fn are_marked(marks: &[bool], count: usize) -> bool {
 }
 
 // How many rows of so many registers are many.
-fn many_rows(width: usize) -> usize
+fn many_rows(sizes: Sizes, width: usize) -> usize
     requires { width < 2 ^ 16 }
 {
-    MANY / (width + BESIDE)
+    sizes.many / (width + BESIDE)
 }
 
 // How many rows of so many registers are worth threads.
-fn least_rows(width: usize) -> usize
+fn least_rows(sizes: Sizes, width: usize) -> usize
     requires { width < 2 ^ 16 }
 {
-    many_rows(width).min(FEW / width.max(1))
+    many_rows(sizes, width).min(sizes.few / width.max(1))
 }
 
-// Whether so many rows are marked that pulling all rows in so many threads takes less time than spreading those: then
-// each edge to an own vertex has to be decoded, of which about one in so many partitions is from an own one, and the rows
-// are raised by all threads.
-fn are_many(threads: usize, parts: u16, width: usize, marks: &[bool]) -> bool
+/// Whether so many rows are marked that a team takes less time to pull all rows than one thread to spread those: then
+/// each edge to an own vertex has to be decoded, of which about one in so many partitions is from an own one, and the rows
+/// are raised by all threads.
+pub fn are_many<R: Threads>(team: &Team<'_, R>, parts: u16, width: usize, marks: &[bool]) -> bool
     requires { width < 2 ^ 16 }
 {
     let decode = DECODE * usize::from(parts.max(1));
-    let gain = (threads.max(1) - 1).min(63) * (RAISE + width / 4 * 3) / decode;
-    0 < gain && are_marked(marks, least_rows(width).max(marks.len() / gain))
+    let gain = (team.threads.max(1) - 1).min(63) * (RAISE + width / 4 * 3) / decode;
+    0 < gain && are_marked(marks, least_rows(team.sizes, width).max(marks.len() / gain))
 }
 
 /// How often rows of so many registers are halved for a team; 0 if so few are marked that threads cost more than they
 /// save.
 pub fn halvings_for<R: Threads>(team: &Team<'_, R>, width: usize, marks: &[bool]) -> u32
     requires { width < 2 ^ 16 }
+    ensures { result ≤ MOST_HALVINGS }
 {
-    if 1 < team.threads && are_marked(marks, least_rows(width)) {
+    if 1 < team.threads && are_marked(marks, least_rows(team.sizes, width)) {
         halvings(team, width, marks)
     } else {
         0
-    }
-}
-
-/// The own rows that are marked are heard: by the predecessors of each vertex if there are several threads and many
-/// rows are marked, and else by the targets of the marked ones.
-pub fn hear_rows<R: Threads + Sync>(
-    team: &Team<'_, R>,
-    own: &Own<'_>,
-    accumulated: &mut Rows,
-    touched: &mut [bool],
-)
-    requires { CanHearRows own.now.targets.now own.now.part.now own.now.rows.now
-        own.now.marks.now accumulated.old touched.old }
-    ensures { SpreadsOwn own.now.targets.now own.now.part.now own.now.rows.now.rows
-        own.now.marks.now accumulated.old accumulated.new touched.old touched.new }
-{
-    let (parts, width) = (own.part.plan().parts(), own.rows.width());
-    if are_many(team.threads, parts, width, own.marks) {
-        let depth = halvings(team, width, own.marks);
-        pull_own(team.rt, depth, own, accumulated, touched);
-    } else {
-        spread_own(own, accumulated, touched);
     }
 }

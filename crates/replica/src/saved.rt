@@ -13,8 +13,8 @@ use crate::progress::is_same;
 use ball_model::Plan;
 use ball_model::plan::{GREATEST_RANK, MOST_PARTS};
 use batches::Batch;
-use edgelist::Part;
 use figures::{Tally, are_last};
+use graph::Part;
 use registers::{Rows, SourceMask};
 use std::sync::Arc;
 

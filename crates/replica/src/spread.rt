@@ -7,7 +7,7 @@ ghost use Rattle.replica.specs.Heard.{MarksBefore, Raises, SpreadsBatch, Spreads
 use crate::targets::Targets;
 use crate::waiting::spread_waiting;
 use batches::Batch;
-use edgelist::Part;
+use graph::Part;
 use registers::{LINE, Rows, next_marked};
 
 // How many rows are glanced at before the first of them is raised.

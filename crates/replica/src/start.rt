@@ -7,8 +7,8 @@ ghost use Rattle.replica.specs.Kept.{AreCounters};
 ghost use Rattle.replica.specs.Start.{IsEmptyAt, first_figures, first_row, first_rows_of_part};
 
 use ball_model::{Plan, mix, place};
-use edgelist::Part;
 use figures::{Estimator, Tally};
+use graph::Part;
 use registers::Rows;
 use std::alloc::{AllocError, Global};
 

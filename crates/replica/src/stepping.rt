@@ -50,7 +50,7 @@ fn step_block(
     while k < marks.len() {
         let (row, next) = (old.row(from + k), ahead.row(from + k));
         let (weight, tally) = (&mut weights[k], &mut tallies[k]);
-        gain += step_tally(step, row, next, weight, tally);
+        gain += step_tally(step.estimator, step.t, row, next, weight, tally);
         k = next_marked(marks, k + 1);
     }
     gain

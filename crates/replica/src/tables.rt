@@ -4,15 +4,19 @@ ghost use Rattle.std.specs.Prelude.{◌≡◌, ◌≤◌, length, map, IfOk};
 ghost use Rattle.std.specs.Vec.{vec_capacity};
 ghost use Rattle.ball_model.specs.PlanValue.{measure_of};
 ghost use Rattle.figures.specs.Values.{value_of};
+ghost use Rattle.replica.specs.Index.{targets_of};
+ghost use Rattle.replica.specs.Tables.{CanGoFurther, GoFurther};
 ghost use Rattle.replica.specs.Tables.{AreFirst, AreRefilled, CanStep, HasRoomFor, NextTables};
 
 use crate::hearing::Hearing;
 use crate::level::{Closing, Step, Team};
-use crate::pull::halvings_for;
+use crate::pull::{Pull, are_many, halvings, halvings_for};
 use crate::relay::{Relay, Tallies};
+use crate::targets::Targets;
+use crate::walk::Walk;
 use crate::{level, start};
-use edgelist::Part;
 use figures::{Estimator, Tally};
+use graph::Part;
 use registers::Rows;
 use std::alloc::{AllocError, Global};
 use std::marker::Model;
@@ -165,6 +169,69 @@ impl Tables {
             .step_by(team.rt, &step, &mut self.rows, weights);
         let sum = last + gain;
         self.sums.push_reserved(sum);
+        hearing.begin(&mut self.marks);
+    }
+
+    /// Hears what changed in the own partition and goes on, as [`Hearing::hear_own`] and [`Tables::next`] do one after the
+    /// other, by a team where it is worth it: in one walk if many rows are marked.
+    pub fn hear_and_go_on<'a, R: Threads + Sync>(
+        &mut self,
+        team: &Team<'_, R>,
+        targets: &Targets,
+        part: &'a Part,
+        closing: &Closing<'a>,
+        hearing: &mut Hearing,
+        weights: &mut [u64],
+    )
+        requires index { targets.now ≡ targets_of part.now }
+        requires can { CanGoFurther part.now closing.now.estimator.now closing.now.t self.old
+            hearing.old weights.old }
+        ensures { GoFurther part.now closing.now.estimator.now closing.now.t self.old self.new
+            hearing.old hearing.new weights.new }
+    {
+        let (parts, width) = (part.plan().parts(), self.rows().width());
+        if are_many(team, parts, width, self.marks()) {
+            self.walk(team, part, closing, hearing, weights);
+        } else {
+            hearing.hear_own(targets, part, self);
+            self.next_by(team, closing, hearing, weights);
+        }
+    }
+
+    // Does so in one walk: accumulators are pulled and figures follow. Then the rows that changed are taken over.
+    fn walk<'a, R: Threads + Sync>(
+        &mut self,
+        team: &Team<'_, R>,
+        part: &'a Part,
+        closing: &Closing<'a>,
+        hearing: &mut Hearing,
+        weights: &mut [u64],
+    )
+        requires { CanGoFurther part.now closing.now.estimator.now closing.now.t self.old
+            hearing.old weights.old }
+        ensures { GoFurther part.now closing.now.estimator.now closing.now.t self.old self.new
+            hearing.old hearing.new weights.new }
+    {
+        let last = self.sums[closing.t as usize];
+        let rows = self.rows.get();
+        let width = rows.width();
+        let pull = Pull {
+            part,
+            rows,
+            marks: &self.marks,
+            depth: halvings(team, width, &self.marks),
+        };
+        let walk = Walk {
+            pull,
+            estimator: closing.estimator,
+            t: closing.t + 1,
+        };
+        let gain = hearing.hear_and_step(team.rt, &walk, &mut self.tallies, weights);
+        let total = last + gain;
+        self.sums.push_reserved(total);
+        let (ahead, marks) = (hearing.ahead(), hearing.touched());
+        let depth = halvings_for(team, width, marks);
+        self.rows.go_on_by(team.rt, depth, ahead, marks);
         hearing.begin(&mut self.marks);
     }
 

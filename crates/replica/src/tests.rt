@@ -17,16 +17,15 @@ mod script;
 mod shown;
 mod snapshots;
 mod table;
+mod teams;
 mod threads;
 mod unions;
 
 use super::*;
-use ball_model::{
-    BatchName, CloseError, CountingReader, MergeError, Plan, TakeError, Taken, Verdict,
-};
+use ball_model::{BatchName, CloseError, MergeError, Plan, TakeError, Taken, Verdict};
 use batches::Batch;
-use edgelist::{Delimiter, EdgeLimits, Graph, Part, read_edges};
 use figures::Tally;
+use graph::{Delimiter, Graph, GraphBuilder, Part};
 use registers::{Join, Rows, SourceMask, reconcile};
 use std::alloc::AllocError;
 use std::hash::RandomState;

@@ -1,11 +1,11 @@
 -- Beginnings of text.
-use Rattle.std.proofs.Common.{◌≡◌, ℕ, suc, ◌+◌, ◌-◌, ◌<◌, ◌≤◌, Bool, Option, List, [], ◌∷◌, ◌++◌, length, refl, ap, sym, ◌∙◌, arith, append_assoc, slice_index_or}
+use Rattle.std.proofs.Common.{◌≡◌, ℕ, suc, ◌+◌, ◌-◌, ◌<◌, ◌≤◌, Bool, Option, List, [], ◌∷◌, ◌++◌, length, take, drop, drop-cons, get_or, refl, ap, sym, ◌∙◌, arith, append_assoc, slice_index_or}
 use Rattle.std.specs.Prelude.{codes, decimal, if◌then◌else◌}
 use Rattle.std.specs.List.{flat_map, range_with_len}
 use Rattle.std.specs.Io.KnownBytes.{Appends}
 use Rattle.std.proofs.KnownBytes.{Appends-nil, Appends-trans}
 use Rattle.std.proofs.lemmas.Grind.{flat_map-append}
-use Rattle.std.proofs.lemmas.List.{length-append}
+use Rattle.std.proofs.lemmas.List.{length-append, take-append-drop}
 use Rattle.figures.specs.declared.ends.Figures.{Figures}
 use Rattle.ball_model.specs.Figures.{fixed6_of}
 use Rattle.ball_model.specs.Streams.{PutsFront}
@@ -36,6 +36,16 @@ front_then xs ys a b c before p = record {
   fewer = p.fewer;
   appended = Appends-trans a b c xs p.front before p.appended;
 }
+
+-- the texts of the pages before one, and a beginning of its own
+pub front_page : {X : Type 0} (f : X → List ℕ) (xs : List X) (i : ℕ) (d : X) (a b c : Option (List ℕ)) → i < length xs →
+    Appends a b (flat_map f (take i xs)) → PutsFront b c (f (get_or xs i d)) → PutsFront a c (flat_map f xs)
+front_page f xs i d a b c lt before here =
+    let more : List ℕ = flat_map f (drop (suc i) xs) in
+    let whole : flat_map f xs ≡ flat_map f (take i xs) ++ (f (get_or xs i d) ++ more) =
+    ap (flat_map f) (sym (take-append-drop i xs)) ∙ flat_map-append f (take i xs) (drop i xs)
+    ∙ ap (λ l. flat_map f (take i xs) ++ flat_map f l) (drop-cons xs i d lt) in
+    rw whole (front_then (flat_map f (take i xs)) (f (get_or xs i d) ++ more) a b c before (front_first (f (get_or xs i d)) more b c here))
 
 -- ---- no line is empty
 

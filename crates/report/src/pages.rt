@@ -5,7 +5,7 @@ ghost use Rattle.std.specs.Prelude.{IsOk, OnErr, OnOk, Some};
 ghost use Rattle.std.specs.Io.{WritesAtMost};
 ghost use Rattle.std.specs.Io.KnownBytes.{Appends, Keeps, WriteAppends};
 ghost use Rattle.std.specs.IoError.{error_kind};
-ghost use Rattle.ball_model.specs.Streams.{RisesByOne};
+ghost use Rattle.ball_model.specs.Streams.{PutsFront, RisesByOne};
 
 use ball_model::{CountedWrite, put_all};
 use std::alloc::Global;
@@ -42,10 +42,13 @@ impl Pages {
         }
     }
 
-    /// Writes all pages and answers true, or answers false if a call failed; nothing is tried again.
+    /// Writes all pages, in order, and answers true; or answers false if a call failed, after a beginning of the text.
+    /// Nothing is tried again.
     pub fn write_to<W: CountedWrite>(&self, writer: &mut W) -> bool
         ensures done { result ≡ true →
             Appends (W.contents writer.old) (W.contents writer.new) self.now }
+        ensures front { result ≡ false →
+            PutsFront (W.contents writer.old) (W.contents writer.new) self.now }
         ensures counted { result ≡ true → W.failed_calls writer.new ≡ W.failed_calls writer.old }
         ensures failed { result ≡ false →
             RisesByOne (W.failed_calls writer.old) (W.failed_calls writer.new) }

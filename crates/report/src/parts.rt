@@ -10,8 +10,8 @@ ghost use Rattle.report.specs.Rows.{Adds, AtRow};
 
 use crate::lines::{bytes_written, put_end, put_gain, put_superstep, put_vertex, rows_in};
 use csv::Writer;
-use edgelist::Graph;
 use figures::{Figures, figures_within, gain};
+use graph::Graph;
 use replica::{Replica, Shown};
 use std::alloc::{AllocError, Global};
 use std::ops::Range;

@@ -7,9 +7,10 @@ mod refusals;
 mod texts;
 
 use super::*;
-use ball_model::{CountedWrite, CountingReader, CountingWriter, Taken};
-use edgelist::{Delimiter, EdgeLimits, Graph, Part, read_edges};
+use ball_model::{CountedWrite, CountingWriter, Taken};
+use graph::{Graph, GraphBuilder, Part};
 use replica::{Replica, Shown};
+use std::alloc::Global;
 use std::hash::RandomState;
 use std::io::Write;
 use std::random::RandomSource;
@@ -81,15 +82,27 @@ static WORKED: [Worked; 4] = [
     ),
 ];
 
+// Adds the vertex or the edge of a line.
+fn add_line(alloc: Global, builder: &mut GraphBuilder, line: &[u8]) -> Option<()> {
+    match line.iter().position(|byte| *byte == b'\t') {
+        Some(tab) => builder.edge(alloc, &line[..tab], &line[tab + 1..]).ok(),
+        None => {
+            if !line.is_empty() {
+                builder.vertex(alloc, line).ok()?;
+            }
+            Some(())
+        }
+    }
+}
+
 // The graph of an edge list with tabs.
 fn graph_of<H: AllocGlobal + RandomSource>(rt: &H, text: &[u8]) -> Option<Graph> {
-    let limits = EdgeLimits {
-        vertices: 100,
-        edges: 100,
-    };
-    let state = RandomState::new(rt).ok()?;
-    let mut reader = CountingReader::new(text);
-    read_edges(rt.alloc(), state, &mut reader, Delimiter::Tab, limits).ok()
+    let alloc = rt.alloc();
+    let mut builder = GraphBuilder::new(alloc, RandomState::new(rt).ok()?);
+    for line in text.split(|byte| *byte == b'\n') {
+        add_line(alloc, &mut builder, line)?;
+    }
+    builder.finish(alloc).ok()
 }
 
 // The part of a partition.

@@ -11,7 +11,7 @@ ghost use Rattle.report.specs.Written.{WritesText};
 use crate::parts::{Block, head_of, vertices_text};
 use crate::ready::is_stable;
 use ball_model::{CountedWrite, put_all};
-use edgelist::Graph;
+use graph::Graph;
 use replica::{Replica, Shown};
 use std::alloc::{AllocError, Global};
 use std::ops::Range;

@@ -4,7 +4,7 @@ use super::reading::fault;
 use super::whole;
 use super::worked::TWO_EDGES;
 use crate::KeepError;
-use edgelist::Part;
+use graph::Part;
 use std::sync::Arc;
 
 /// By hand, the refusals of the checkpoint of the two edges when one bit is turned, from the first of a row up to the

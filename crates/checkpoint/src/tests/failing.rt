@@ -5,7 +5,7 @@ use super::replica_of;
 use super::writing::{writes, written};
 use crate::{KeepError, checkpoint_length};
 use ball_model::MemReader;
-use edgelist::Part;
+use graph::Part;
 use replica::Replica;
 use std::sync::Arc;
 

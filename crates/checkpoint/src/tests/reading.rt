@@ -7,7 +7,7 @@ use super::worked::{FIRST, TWO_EARLY, TWO_EDGES};
 use super::writing::writes;
 use crate::{CountedRead, KeepError, read_checkpoint};
 use ball_model::{CountingReader, MemReader};
-use edgelist::Part;
+use graph::Part;
 use replica::Replica;
 use sha2::{Digest, Sha256};
 use std::io::{ErrorKind, Read};

@@ -7,7 +7,7 @@ use super::worked::{FIRST, TWO_EARLY, TWO_EDGES};
 use super::writing::{early_is_written, edges_are_written};
 use super::{half, whole};
 use crate::KeepError;
-use edgelist::Part;
+use graph::Part;
 use std::sync::Arc;
 
 /// Whether bytes are read, or else memory was refused, and they are read then as a replica that writes those.

@@ -8,7 +8,7 @@ use super::{half, replica_of, whole};
 use crate::{KeepError, checkpoint_length, write_checkpoint};
 use ball_model::{CountingWriter, MemReader, Plan, Taken, Verdict};
 use batches::Batch;
-use edgelist::Part;
+use graph::Part;
 use replica::{Replica, Shown};
 use std::io;
 use std::io::{ErrorKind, Write};

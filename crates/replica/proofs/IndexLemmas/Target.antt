@@ -5,7 +5,7 @@ use Rattle.replica.proofs.Names.{list_any, filter, flat_map, range_with_len, cas
 use Rattle.ball_model.specs.Graph.{is_edge, preds_of}
 use Rattle.ball_model.proofs.PathLemmas.{edge_below}
 use Rattle.ball_model.proofs.AccumulatedLemmas.{any_pred}
-use Rattle.edgelist.proofs.LinksLemmas.{any_elsewhere, any_here}
+use Rattle.graph.proofs.LinksLemmas.{any_elsewhere, any_here}
 use Rattle.replica.specs.Spread.{stands_in, LeadInside}
 use Rattle.replica.specs.Index.{first_edges, all_edges, targets_from, targets_of}
 

@@ -11,7 +11,7 @@ use Rattle.replica.proofs.KeptLemmas.Rise.{rise_estimate, same_registers}
 pub lasts_count : (m : Measure) (rows : List (List ℕ)) (tallies : List TallyValue) → map (λ t. t.last) tallies ≡ map (estimate_with m) rows → length tallies ≡ length rows
 lasts_count m rows tallies same = sym (length-map tallies (λ (t : TallyValue). t.last)) ∙ ap length same ∙ length-map rows (estimate_with m)
 
-last_at : (m : Measure) (rows : List (List ℕ)) (tallies : List TallyValue) (i : ℕ) → map (λ t. t.last) tallies ≡ map (estimate_with m) rows → i < length rows → (get_or tallies i no_figures).last ≡ estimate_with m (get_or rows i [])
+pub last_at : (m : Measure) (rows : List (List ℕ)) (tallies : List TallyValue) (i : ℕ) → map (λ t. t.last) tallies ≡ map (estimate_with m) rows → i < length rows → (get_or tallies i no_figures).last ≡ estimate_with m (get_or rows i [])
 last_at m rows tallies i same lt =
     sym (get_or-map (λ (t : TallyValue). t.last) tallies i no_figures 0 (omega (arith, lasts_count m rows tallies same))) ∙ ap (λ (l : List ℕ). get_or l i 0) same ∙ get_or-map (estimate_with m) rows i [] 0 lt
 

@@ -55,14 +55,13 @@ impl Progress {
         ensures { GoesFurther self.old.state self.new targets.now estimator.now weights.new }
     {
         let plan = *self.part.plan();
-        self.hearing
-            .hear_own_by(team, targets, &self.part, &self.tables);
         let closing = Closing {
             estimator: &*estimator,
             t: self.superstep,
         };
+        let hearing = &mut self.hearing;
         self.tables
-            .next_by(team, &closing, &mut self.hearing, weights);
+            .hear_and_go_on(team, targets, &self.part, &closing, hearing, weights);
         self.superstep += 1;
         self.hearing.hear_early(targets, &plan, &mut self.early, 0);
     }

@@ -127,6 +127,17 @@ impl Relay<Rows> {
         take_over(rt, depth, own, ahead, marks);
     }
 
+    /// The rows go on to those of `ahead`, from which they differ in marked rows alone, in 2^depth threads. It takes no
+    /// memory but that of the threads, and the time of [`Relay::go_on`] and [`Relay::put_marked`].
+    pub fn go_on_by<R: Threads + Sync>(&mut self, rt: &R, depth: u32, ahead: &Rows, marks: &[bool])
+        requires { DifferWhere marks.now self.old ahead.now }
+        ensures { self.new ≡ ahead.now }
+    {
+        let before = self.go_on(ahead, marks);
+        self.put_marked(rt, depth, ahead, marks);
+        self.leave_behind(before);
+    }
+
     /// From now on what the rows were before they went on is kept as the table shown before.
     pub fn leave_behind(&mut self, before: Option<Behind<Rows>>)
         requires { IsRelay DifferWhere self.old before }

@@ -1,15 +1,18 @@
 //! Tallies that are handed out while they go on.
 
-ghost use Rattle.std.specs.Prelude.{◌≡◌, ◌≤◌, List, length, map, IfOk};
+ghost use Rattle.std.specs.Prelude.{◌≡◌, ◌≤◌, List, None, length, map, IfOk, IfSome};
+ghost use Rattle.std.specs.Arc.{arc_value};
 ghost use Rattle.std.specs.Vec.{vec_capacity};
 ghost use Rattle.ball_model.specs.Figures.{TallyValue};
 ghost use Rattle.figures.specs.Values.{value_of};
 ghost use Rattle.replica.specs.Relay.{AreOwnAgain, CanBeRelayed, DifferAt, IsRelay, shown_of};
 ghost use Rattle.replica.specs.Tables.{AreStepped, CanBeStepped};
+ghost use Rattle.replica.specs.Walk.{CanWalk, Walks};
 
 use super::{Behind, Relay, Relayed, Shared, filled, mark_all};
 use crate::level::{self, Step};
 use crate::stepping::step_rows_by;
+use crate::walk::{Walk, walk_own};
 use figures::Tally;
 use registers::{Rows, next_marked};
 use std::alloc::{AllocError, Global};
@@ -73,6 +76,25 @@ impl Tallies {
             self.new weights.new result rows.new }
     {
         step_rows_by(rt, step, rows, weights, &mut self.items)
+    }
+
+    // They become the figures of what is accumulated as the own rows are pulled.
+    fn walk<R: Threads + Sync>(
+        &mut self,
+        rt: &R,
+        walk: &Walk<'_>,
+        accumulated: &mut Rows,
+        touched: &mut [bool],
+        weights: &mut [u64],
+    ) -> u128
+        requires { CanWalk walk.now.estimator.now walk.now.t walk.now.pull.part.now
+            walk.now.pull.rows.now walk.now.pull.marks.now accumulated.old touched.old
+            weights.old self.old }
+        ensures { Walks walk.now.estimator.now walk.now.t walk.now.pull.part.now
+            walk.now.pull.rows.now walk.now.pull.marks.now accumulated.old accumulated.new
+            touched.old touched.new self.old self.new weights.new result }
+    {
+        walk_own(rt, walk, accumulated, touched, weights, &mut self.items)
     }
 
     // Each stale one becomes that of `ahead`, which are as many, and from which no other one differs.
@@ -186,6 +208,37 @@ impl Relay<Tallies> {
         );
         self.own.step_by(rt, step, rows, weights)
     }
+
+    /// They become the figures of what is accumulated as the own rows are pulled, as [`walk_own`] does it. It takes no
+    /// memory but that of the threads, and copies what [`Relay::step`] does.
+    pub fn walk<R: Threads + Sync>(
+        &mut self,
+        rt: &R,
+        walk: &Walk<'_>,
+        accumulated: &mut Rows,
+        touched: &mut [bool],
+        weights: &mut [u64],
+    ) -> u128
+        requires { CanWalk walk.now.estimator.now walk.now.t walk.now.pull.part.now
+            walk.now.pull.rows.now walk.now.pull.marks.now accumulated.old touched.old
+            weights.old self.old }
+        ensures { Walks walk.now.estimator.now walk.now.t walk.now.pull.part.now
+            walk.now.pull.rows.now walk.now.pull.marks.now accumulated.old accumulated.new
+            touched.old touched.new self.old self.new weights.new result }
+    {
+        let shown = self.out.take();
+        let left = take_up(&mut self.own, shown, &mut self.behind, &mut self.spare);
+        let gain = self.own.walk(rt, walk, accumulated, touched, weights);
+        leave(&mut self.behind, left, touched);
+        gain
+    }
+}
+
+// Tallies that were handed out, with room for a mark for each.
+#[derive(Drop)]
+struct Left {
+    table: Arc<Tallies>,
+    room: Vec<bool>,
 }
 
 // What is shown is in the own table, to be stepped where it is marked; what was handed out is what was shown before.
@@ -199,16 +252,46 @@ fn go_on(
     requires { CanBeRelayed (shown_of own.old out) behind.old (length marks.now) }
     ensures { AreOwnAgain (shown_of own.old out) marks.now own.new behind.new }
 {
+    let left = take_up(own, out, behind, spare);
+    leave(behind, left, marks);
+}
+
+// What is shown is in the own table; the answer is what was handed out.
+fn take_up(
+    own: &mut Tallies,
+    out: Option<Shared<Tallies>>,
+    behind: &mut Option<Behind<Tallies>>,
+    spare: &mut Option<Vec<Tally>>,
+) -> Option<Left>
+    requires { IsRelay DifferAt (shown_of own.old out) behind.old }
+    ensures own { own.new ≡ shown_of own.old out }
+    ensures left { IfSome result (λ left. (arc_value left.table ≡ shown_of own.old out)
+        × (length (shown_of own.old out) ≤ vec_capacity left.room)) }
+    ensures behind { result ≡ None → behind.new ≡ behind.old }
+{
     match out {
-        None => mark_all(behind, marks),
+        None => None,
         Some(out) => {
-            let Shared {
-                table,
-                room,
-                marks: stale,
-            } = out;
+            let Shared { table, room, marks } = out;
             bring_up(own, behind.take(), room, spare, &table);
-            let stale = filled(stale, marks);
+            Some(Left { table, room: marks })
+        }
+    }
+}
+
+// What was handed out is what was shown before, stale where it is marked; or else what was shown before it is.
+fn leave(behind: &mut Option<Behind<Tallies>>, left: Option<Left>, marks: &[bool])
+    requires room { IfSome left (λ l. length marks.now ≤ vec_capacity l.room) }
+    requires behind { left ≡ None → IfSome behind.old (λ b. length b.stale ≡ length marks.now) }
+    ensures { (shown ahead : List TallyValue) → DifferAt marks.now shown ahead →
+        IfSome left (λ l. arc_value l.table ≡ shown) →
+        (left ≡ None → IsRelay DifferAt shown behind.old) → IsRelay DifferAt ahead behind.new }
+{
+    match left {
+        None => mark_all(behind, marks),
+        Some(left) => {
+            let Left { table, room } = left;
+            let stale = filled(room, marks);
             *behind = Some(Behind { table, stale });
         }
     }

@@ -24,13 +24,14 @@ use crate::early::Early;
 use crate::first::FirstTables;
 use crate::level::Team;
 use crate::progress::is_same;
+use crate::pull::Sizes;
 use crate::shown::Shown;
 use crate::targets::Targets;
 use crate::{Progress, Replica, Snapshot};
 use ball_model::{CloseError, MergeError, TakeError, Taken};
 use batches::Batch;
-use edgelist::Part;
 use figures::Estimator;
+use graph::Part;
 use std::alloc::{AllocError, Global};
 use std::sync::Arc;
 use std::thread::Threads;
@@ -188,9 +189,9 @@ impl Replica {
     }
 
     /// Closes the superstep as [`Replica::close`] does, in so many threads, or the next power of 2 below. If many vertices
-    /// changed, each accumulator is raised by the rows of its own predecessors ("pulled") by one thread, so that threads
-    /// share nothing that is written. If they are as many as the processors, or more, up to four times as many work,
-    /// since parts of the work take unequal times.
+    /// changed, each accumulator is raised by the rows of its own predecessors ("pulled") by one thread, and the figures of
+    /// its vertex follow at once, so that threads share nothing that is written. If these are as many as the processors, or
+    /// more, up to four times as many work, since parts of the work take unequal times.
     ///
     /// Errors are those of `close`. It takes no memory but that of its threads, which it joins; a thread that cannot be
     /// started is done without. It takes the time of `close`, over the processors if many vertices changed.
@@ -213,9 +214,20 @@ impl Replica {
         // a step of a run
         ensures step { (j : Job) (p : ℕ) → Closes j p result self.old self.new }
     {
-        let team = Team { rt, threads };
+        let sizes = Sizes::usual();
+        let team = Team { rt, threads, sizes };
         self.progress
             .close_level_by(&team, &self.targets, &self.estimator, &mut self.weights)
+    }
+
+    /// Closes the superstep as [`Replica::close`] does, by a team.
+    #[cfg(test)]
+    pub(crate) fn close_in<R: Threads + Sync>(
+        &mut self,
+        team: &Team<'_, R>,
+    ) -> Result<u32, CloseError> {
+        self.progress
+            .close_level_by(team, &self.targets, &self.estimator, &mut self.weights)
     }
 
     /// Gives back the memory that a run that is over needs no more: that of the index, that of the accumulators if each

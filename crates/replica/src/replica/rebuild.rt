@@ -14,7 +14,7 @@ use crate::tables::{self, Tables};
 use crate::targets::Targets;
 use crate::{Progress, Replica, Shown, start};
 use batches::Batch;
-use edgelist::Part;
+use graph::Part;
 use std::alloc::{AllocError, Global};
 use std::sync::Arc;
 

@@ -29,15 +29,27 @@ pub const TWO_EDGES: Job = Job {
     limit: 4096,
 };
 
+/// Adds the vertex or the edge of a line.
+fn add_line(alloc: Global, builder: &mut GraphBuilder, line: &[u8]) -> Option<()> {
+    match line.iter().position(|byte| *byte == b'\t') {
+        Some(tab) => builder.edge(alloc, &line[..tab], &line[tab + 1..]).ok(),
+        None => {
+            if !line.is_empty() {
+                builder.vertex(alloc, line).ok()?;
+            }
+            Some(())
+        }
+    }
+}
+
 /// The graph of an edge list with tabs.
 pub fn graph(rt: &HostRuntime, text: &[u8]) -> Option<Graph> {
-    let limits = EdgeLimits {
-        vertices: 100,
-        edges: 100,
-    };
-    let state = RandomState::new(rt).ok()?;
-    let mut reader = CountingReader::new(text);
-    read_edges(rt.alloc(), state, &mut reader, Delimiter::Tab, limits).ok()
+    let alloc = rt.alloc();
+    let mut builder = GraphBuilder::new(alloc, RandomState::new(rt).ok()?);
+    for line in text.split(|byte| *byte == b'\n') {
+        add_line(alloc, &mut builder, line)?;
+    }
+    builder.finish(alloc).ok()
 }
 
 /// Counts only the vertices of a list, if there is one.

@@ -1,25 +1,10 @@
-//! Supersteps that are asked for in several threads, rows that are pulled in blocks, and indexes and first tables that
-//! are made in threads.
+//! Indexes and first tables that are made in threads.
 
-use super::jobs::{Job, add_job, begun, graph};
+use super::jobs::{begun, graph};
 use super::shown::shows_all;
 use super::*;
-use crate::level::count_set;
-use crate::pull::pull_own;
-use crate::spread::Own;
-use crate::start::{start_marks, start_rows};
-use std::alloc::{AllocGlobal, Global};
+use std::alloc::AllocGlobal;
 use std::thread::Threads;
-
-/// Eight vertices in one partition; the first is one that many link to.
-const SOLE: Job = Job {
-    text: b"b\ta\nc\ta\nd\ta\ne\tb\nf\te\ng\tf\nh\tg\na\th\nc\tb\n",
-    counted: None,
-    is_corrected: false,
-    seed: 0,
-    parts: 1,
-    limit: 4096,
-};
 
 /// Whether two replicas tell the same sums at the same superstep.
 fn tell_the_same(a: &Replica, b: &Replica) -> bool {
@@ -43,18 +28,6 @@ fn go_on_alike<R: Threads + Sync>(rt: &R, all: &mut [Replica], threads: usize) -
     false
 }
 
-/// Adds two new replicas of the job.
-fn add_two(rt: &HostRuntime, all: &mut Vec<Replica>) -> bool {
-    add_job(rt, all, &SOLE) == Some(true) && add_job(rt, all, &SOLE) == Some(true)
-}
-
-#[test]
-fn threads_change_nothing(rt: HostRuntime) {
-    let mut all = Vec::new(rt.alloc());
-    let added = add_two(&rt, &mut all);
-    assert!(rt; added && go_on_alike(&rt, &mut all, 3));
-}
-
 /// Eleven vertices; ten link to the first, which is more than are looked at before the first of them.
 const HUB: &[u8] =
     b"b\ta\nc\ta\nd\ta\ne\ta\nf\ta\ng\ta\nh\ta\ni\ta\nj\ta\nk\ta\na\tc\nb\tc\nc\td\nk\tj\n";
@@ -70,13 +43,6 @@ fn sole_part(rt: &HostRuntime, text: &[u8]) -> Option<Part> {
 fn new_replica(rt: &HostRuntime, text: &[u8]) -> Option<Replica> {
     let part = Arc::new(rt.alloc(), sole_part(rt, text)?).ok()?;
     Replica::new(rt.alloc(), part).ok()
-}
-
-/// The replica of that part, which has closed superstep 0.
-fn closed(rt: &HostRuntime, text: &[u8]) -> Option<Replica> {
-    let mut replica = new_replica(rt, text)?;
-    replica.close().ok()?;
-    Some(replica)
 }
 
 /// Graphs of eleven vertices, of two and of one that has no edge, and in how many threads each is indexed.
@@ -172,110 +138,4 @@ fn first_tables_change_nothing(rt: HostRuntime) {
         _ => false,
     };
     assert!(rt; alike);
-}
-
-/// Rows and marks of a superstep.
-#[derive(Drop)]
-struct Found {
-    rows: Rows,
-    marks: Vec<bool>,
-}
-
-/// What the first rows of a part become as each is raised by those of its predecessors, in blocks that are halved so
-/// often; none if memory was refused.
-fn pulled<R: Threads + Sync>(
-    rt: &R,
-    alloc: Global,
-    depth: u32,
-    part: &Part,
-    targets: &Targets,
-) -> Option<Found> {
-    let first = start_rows(alloc, part).ok()?;
-    let changed = start_marks(alloc, part).ok()?;
-    let mut rows = start_rows(alloc, part).ok()?;
-    let mut marks = vec![in alloc; false; changed.len()].ok()?;
-    let count = part.size() as usize;
-    if first.len() != count || changed.len() != count {
-        return None;
-    }
-    let own = Own {
-        targets: &*targets,
-        part: &*part,
-        rows: &first,
-        marks: &changed,
-    };
-    pull_own(rt, depth, &own, &mut rows, &mut marks);
-    Some(Found { rows, marks })
-}
-
-/// Whether these are the rows of a replica, and as many of them have changed.
-fn are_those_of(found: &Found, replica: &Replica) -> bool {
-    let rows = replica.rows();
-    let mut alike = found.rows.len() == rows.len();
-    for i in 0..rows.len().min(found.rows.len()) {
-        alike = alike && found.rows.row(i) == rows.row(i);
-    }
-    alike && count_set(&found.marks) == replica.changed_count() as usize
-}
-
-/// Whether the rows of a part are those of a replica at superstep 1, be they pulled in one block or in more blocks than
-/// there are vertices.
-fn are_pulled_alike<R: Threads + Sync>(
-    rt: &R,
-    alloc: Global,
-    part: &Part,
-    replica: &Replica,
-) -> Option<bool> {
-    let targets = Targets::of(alloc, part).ok()?;
-    let mut alike = true;
-    for depth in 0..6u32 {
-        alike = alike && are_those_of(&pulled(rt, alloc, depth, part, &targets)?, replica);
-    }
-    Some(alike)
-}
-
-#[test]
-fn blocks_change_nothing(rt: HostRuntime) {
-    let alike = match (sole_part(&rt, HUB), closed(&rt, HUB)) {
-        (Some(part), Some(replica)) => are_pulled_alike(&rt, rt.alloc(), &part, &replica),
-        _ => None,
-    };
-    assert_eq!(rt; alike, Some(true));
-}
-
-/// Whether both have the same rows, and the same marks.
-fn are_the_same(a: &Found, b: &Found) -> bool {
-    let mut alike = a.rows.len() == b.rows.len() && a.marks[..] == b.marks[..];
-    for i in 0..a.rows.len().min(b.rows.len()) {
-        alike = alike && a.rows.row(i) == b.rows.row(i);
-    }
-    alike
-}
-
-/// Whether the rows of a part are pulled in more blocks, at last in more than it has vertices, as they are in one.
-fn are_blocks_alike<R: Threads + Sync>(rt: &R, alloc: Global, part: &Part) -> Option<bool> {
-    let targets = Targets::of(alloc, part).ok()?;
-    let whole = pulled(rt, alloc, 0, part, &targets)?;
-    let mut alike = count_set(&whole.marks) == 1;
-    for depth in 1..5u32 {
-        alike = alike && are_the_same(&pulled(rt, alloc, depth, part, &targets)?, &whole);
-    }
-    Some(alike)
-}
-
-/// The second of two parts of a graph.
-fn second_part(rt: &HostRuntime, text: &[u8]) -> Option<Part> {
-    let graph = graph(rt, text)?;
-    let plan = graph.plan(8, 0, 2, 4096).ok()?;
-    graph.part(rt.alloc(), &plan, 1).ok()
-}
-
-/// It has five vertices (a, d, f, h and j), of which the first hears the four others, and those none of their own part.
-#[test]
-fn blocks_of_one_of_two_parts(rt: HostRuntime) {
-    let alike = match second_part(&rt, HUB) {
-        Some(part) => are_blocks_alike(&rt, rt.alloc(), &part),
-        None => None,
-    };
-    assert_eq!(rt; alike, Some(true));
 }

@@ -4,7 +4,7 @@ use Rattle.std.proofs.Crossing.{crosses}
 use Rattle.board.specs.contracts.tests.Scene as scene
 use Rattle.board.specs.contracts.tests.User as user
 use Rattle.ball_model.proofs.Crossing.{plan_sync}
-use Rattle.edgelist.proofs.Crossing.{graph_sync}
+use Rattle.graph.proofs.Crossing.{graph_sync}
 use Rattle.batches.proofs.Crossing.{shared_batch_sync}
 use Rattle.replica.proofs.Crossing.{replica_sync, shared_snapshot_sync}
 use Rattle.board.proofs.Crossing.{seat_send, board_sync}
