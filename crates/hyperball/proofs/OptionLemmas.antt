@@ -6,7 +6,7 @@ use Rattle.clap.specs.Words.{ReadsOne, Text, first_of, first_value, one_text, ro
 use Rattle.clap.specs.declared.parser.matches.Found.{Found}
 use Rattle.clap.proofs.WalkLemmas.{first_value-rows, one_text-rows}
 use Rattle.ball_model.specs.declared.plan.Estimate.{Estimate}
-use Rattle.edgelist.specs.declared.read.Delimiter.{Delimiter}
+use Rattle.graph.specs.declared.delimiter.Delimiter.{Delimiter}
 use Rattle.node.specs.declared.job.JobInput.{JobInput}
 use Rattle.hyperball.specs.declared.cli.gather.GatherWords.{GatherWords}
 use Rattle.hyperball.specs.declared.cli.one_node.NodeWords.{NodeWords}

@@ -35,7 +35,7 @@ pub unread : (v : ReplayWords) (r : Reads) (w : Writes) (f : WholeError) → Rea
 unread v r w f whole keeps = record {
   due = always r.bytes.old (λ input. tt);
   left = keeps;
-  begun = inl (inl keeps);
+  begun = inl keeps;
   whole = retold r (λ e. f ≡ e) (λ e. unserved.Input f ≡ unserved.Input e) (λ e is. same_input f e is) (λ e is. ap unserved.Input is) whole;
   long = always r.bytes.old (λ input long. tt);
   lacks = always r.bytes.old (λ input missing is. inl tt);
@@ -47,7 +47,7 @@ pub lacking : (v : ReplayWords) (r : Reads) (w : Writes) (bytes : List ℕ) (mis
 lacking v r w bytes missing read found keeps = record {
   due = of_input r.bytes.old bytes (λ input. parts_in v.counted true input ≡ Err missing) read.whole found;
   left = keeps;
-  begun = inl (inl keeps);
+  begun = inl keeps;
   whole = untold r bytes (λ e. unserved.Lacks missing ≡ unserved.Input e) read (λ e is. absurd (cc));
   long = not_long r bytes _ read;
   lacks = of_input r.bytes.old bytes (λ input. (m : Lack) → parts_in v.counted true input ≡ Err m → ⊥ ⊎ (unserved.Lacks missing ≡ unserved.Lacks m)) read.whole
@@ -66,8 +66,15 @@ left_of v r w bytes e read over = elim (which e) [
     begun = λ plain. over.fails.memory plain memory;
   }))
   | inr other ↦ elim other [
-    | inl write ↦ inl (inr (over.fails.write write))
-    | inr neither ↦ inl (inl (over.fails.untouched neither.0 neither.1))
+    | inl write ↦ inr (of_input r.bytes.old bytes (λ input. BeginsAnswers v input w.contents.old w.contents.new) read.whole (record {
+      edges = over.edges;
+      list = over.list;
+      script = over.script;
+      found = over.found;
+      some = inr (over.fails.some_begun write);
+      begun = λ plain. inr (over.fails.begun plain write);
+    }))
+    | inr neither ↦ inl (over.fails.untouched neither.0 neither.1)
   ]
 ]
 
@@ -84,10 +91,11 @@ failing v r w bytes e read over = record {
 }
 
 -- the answers to it were appended
-pub answered : (v : ReplayWords) (r : Reads) (w : Writes) (bytes : List ℕ) → IsRead r bytes → Answers v bytes w.contents.old w.contents.new → DoesReplay v r w
-answered v r w bytes read done = record {
+pub answered : (v : ReplayWords) (r : Reads) (w : Writes) (bytes : List ℕ) → IsRead r bytes → Answers v bytes w.contents.old w.contents.new → w.failed.new ≡ w.failed.old → DoesReplay v r w
+answered v r w bytes read done written = record {
   answered = of_input r.bytes.old bytes (λ input. Answers v input w.contents.old w.contents.new) read.whole done;
   unfailed = read.unfailed;
+  written = written;
 }
 
 -- the parts of an input that has this script

@@ -42,7 +42,7 @@ run_kept v r w (unrun.Job e) fails = fails.kept
 alone_leaves : (words : List Text) (x : Wish) (r : Reads) (w : Writes) → AsksWish words x → FailsAlone x r w → LeavesFault words r w
 alone_leaves words (wish.Run v) r w asks fails = inl (run_kept v r w fails.fault fails.due)
 alone_leaves words (wish.Replay v) r w asks fails = elim fails.due.begun [
-  | inl kept ↦ inl kept
+  | inl kept ↦ inl (inl kept)
   | inr begun ↦ inr (inl (record { asks = asks; words_of = v; begun = begun }))
 ]
 alone_leaves words (wish.Node v) r w asks fails = inr (inr (inl asks))
@@ -55,7 +55,7 @@ wish_leaves words x r w asks (inr fails) = alone_leaves words x r w asks fails
 -- a wish that is this one does what this one does
 done_run : (w v : RunWords) (r : Reads) (x : Writes) → with_lists_of w v ≡ w → DoesJob v.options v.counted r x → DoesJob w.options w.counted r x
 done_run w v r x says done =
-    subst (λ (u : RunWords). DoesJob u.options u.counted r x) says (record { reported = done.reported; unfailed = done.unfailed; listed = done.listed })
+    subst (λ (u : RunWords). DoesJob u.options u.counted r x) says (record { reported = done.reported; unfailed = done.unfailed; listed = done.listed; written = done.written })
 
 pub says_done : (a x : Wish) (r : Reads) (w : Writes) → Says a x → Does x r w → Does a r w
 says_done (wish.Run a) (wish.Run v) r w says done = done_run a v r w says done

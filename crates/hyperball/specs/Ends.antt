@@ -9,7 +9,7 @@ use Rattle.edgelist.specs.Job.{settings_of}
 use Rattle.hyperball.specs.Nodes.{AsksGather, AsksNode}
 use Rattle.hyperball.specs.Refusals.{DoesJob, FailsJob}
 use Rattle.hyperball.specs.Replaying.{BeginsSome, DoesReplay, FailsReplay}
-use Rattle.hyperball.specs.Streams.{AppendsSome, KeptOrFailed, Reads, Untouched, Writes}
+use Rattle.hyperball.specs.Streams.{AppendsSome, KeptOrFailed, Reads, Untouched, Unread, Unwritten, Writes}
 use Rattle.hyperball.specs.Whole.{ReadsFew}
 use Rattle.hyperball.specs.Wishes.{ReadsAll, Says, SaysOrders}
 use Rattle.hyperball.specs.Words.{AreMistakes, HasFaults, HasNoLists, HasOrders, IsMistake}
@@ -128,18 +128,13 @@ pub record Fails (words : List Text) (asked : Wish) (r : Reads) (w : Writes) : T
   pub orders : SaysOrders words found
   pub fails : FailsWish found r w
 
--- no command was begun: nothing was read, and the writer has what it had, or a call of it failed
-pub record BeginsNothing (r : Reads) (w : Writes) : Type 0 where
-  pub unread : r.bytes.new ≡ r.bytes.old
-  pub kept : KeptOrFailed w
-
 -- ---- ends
--- words that ask for this end with this status: 0 if it is done, and 1 from a fault or if memory is refused before it
--- begins
+-- words that ask for this end with this status: 0 if it is done, and 1 from a fault, or before it begins, and then
+-- nothing was read or written
 pub record Ends (words : List Text) (asked : Wish) (status : ℕ) (r : Reads) (w : Writes) :
     Type 0 where
   pub done : status ≡ 0 → Does asked r w
-  pub fault : status ≡ 1 → BeginsNothing r w ⊎ Fails words asked r w
+  pub fault : status ≡ 1 → Untouched r w ⊎ Fails words asked r w
   pub few : ReadsAll asked → ReadsFew r.bytes.old r.bytes.new
 
 -- words that are refused for this kind end with this status: 1 if memory is refused, 0 or 1 if help or the version is
@@ -169,16 +164,18 @@ pub record LeavesRefused (status : ℕ) (w : Writes) : Type 0 where
   pub fault : status ≡ 1 → KeptOrFailed w
   pub mistake : status ≡ 2 → Keeps w.contents.old w.contents.new
 
--- words in which clap finds these faults end with this status: mistakes with 2, or with 1 if memory is refused; help
--- and the version with 0 or 1, and with 0 something is written
+-- words in which clap finds these faults end with this status: mistakes with 2 or 1, and nothing is written; help and
+-- the version with 0 or 1, and with 0 something is written
 pub record EndsRefused (kinds : List ErrorKind) (status : ℕ) (w : Writes) : Type 0 where
   pub mistaken : AreMistakes kinds → (status ≡ 2) ⊎ (status ≡ 1)
+  pub unwritten : AreMistakes kinds → Unwritten w
   pub help : kinds ≡ kind.DisplayHelp ∷ [] → (status ≡ 0) ⊎ (status ≡ 1)
   pub version : kinds ≡ kind.DisplayVersion ∷ [] → (status ≡ 0) ⊎ (status ≡ 1)
   pub some : kinds ≢ [] → status ≡ 0 → AppendsSome w.contents.old w.contents.new
 
--- words that end with status 2: nothing is written, and if clap accepts them a list of orders is not of its form
-pub record EndsMistaken (words : List Text) (w : Writes) : Type 0 where
+-- words that end with status 2: nothing is read or written, and if clap accepts them a list of orders is not of its form
+pub record EndsMistaken (words : List Text) (r : Reads) (w : Writes) : Type 0 where
+  pub unread : Unread r
   pub kept : Keeps w.contents.old w.contents.new
   pub orders : HasFaults words [] → HasOrders words
   pub misspelt : HasFaults words [] → HasNoLists words

@@ -3,7 +3,7 @@ use Rattle.std.specs.Prelude.{ℕ, List, [], ◌∷◌, true, false}
 use Rattle.ball_model.specs.PlanValue.{greatest_limit}
 use Rattle.ball_model.specs.declared.names.NodeId.{NodeId}
 use Rattle.ball_model.specs.declared.plan.Estimate.TheVariants.{Corrected, Raw}
-use Rattle.edgelist.specs.declared.read.Delimiter.TheVariants.{Comma, Space, Tab}
+use Rattle.graph.specs.declared.delimiter.Delimiter.TheVariants.{Comma, Space, Tab}
 use Rattle.world.specs.declared.replay.ReplayOptions.{ReplayOptions}
 use Rattle.node.specs.declared.job.JobInput.{JobInput}
 use Rattle.hyperball.specs.declared.cli.gather.GatherWords.{GatherWords}

@@ -2,10 +2,10 @@
 use Rattle.std.specs.Prelude.{◌≡◌, ◌≢◌, ◌<◌, ◌≤◌, ⊤, ℕ, Bool, true, false, List, length, Option, IfSome, Ok, Err}
 use Rattle.ball_model.specs.Input.{IsPlain}
 use Rattle.ball_model.specs.RunText.{AppendsReport, ArePlain, Settings}
-use Rattle.ball_model.specs.Streams.{Rises}
+use Rattle.ball_model.specs.Streams.{Rises, RisesByOne}
 use Rattle.edgelist.specs.Job.{settings_of}
 use Rattle.edgelist.specs.Reading.{CountsOne}
-use Rattle.edgelist.specs.declared.read.EdgeError.TheVariants as edge_fault
+use Rattle.edgelist.specs.declared.limits.EdgeError.TheVariants as edge_fault
 use Rattle.hyperball.specs.Streams.{KeptOrFailed, Reads, Writes}
 use Rattle.hyperball.specs.Whole.{Parts, ReadsWhole, parts_in}
 use Rattle.hyperball.specs.declared.cli.run.JobFault.{JobFault}
@@ -13,7 +13,7 @@ use Rattle.hyperball.specs.declared.cli.run.JobFault.TheVariants as fault
 use Rattle.hyperball.specs.declared.whole.Lack.TheVariants as lack
 use Rattle.node.specs.declared.limits.TheConstants.{MOST_BYTES}
 use Rattle.workers.specs.Options.{run_job}
-use Rattle.workers.specs.Run.{IsFaultIn, IsRunRefusal, RefusesEdges}
+use Rattle.workers.specs.Run.{BeginsReport, IsFaultIn, IsRunRefusal, RefusesEdges}
 use Rattle.workers.specs.declared.runs.RunError.{RunError}
 use Rattle.workers.specs.declared.runs.RunError.TheVariants as run_fault
 use Rattle.workers.specs.declared.options.RunOptions.{RunOptions}
@@ -28,13 +28,14 @@ pub record Reports (s : Settings) (counted : Bool) (input : List ℕ) (old new :
       AppendsReport s parts.edges parts.list old new
   pub within : counted ≡ true → length input ≤ MOST_BYTES
 
--- a run by these options is done: the report was appended, and no call of the reader failed (without a list, while
+-- a run by these options is done: the report was appended, and no call failed (of the reader: without a list, while
 -- failures can be counted)
 pub record DoesJob (o : RunOptions) (counted : Bool) (r : Reads) (w : Writes) : Type 0 where
   pub reported : IfSome r.bytes.old (λ input.
       Reports (settings_of (run_job o)) counted input w.contents.old w.contents.new)
   pub unfailed : CountsOne r.failed.old r.failed.new → ⊥
   pub listed : counted ≡ true → Rises r.failed.old r.failed.new → ⊥
+  pub written : w.failed.new ≡ w.failed.old
 
 -- this error is answered of the edge list and the list of counted vertices in the input, if these are plain: it comes
 -- only if all checks before it passed; and if the edge list alone is, it says of that what it has to
@@ -44,6 +45,14 @@ pub record RefusesInput (s : Settings) (counted : Bool) (input : List ℕ) (e : 
   pub found : parts_in counted false input ≡ Ok parts
   pub of_edges : IsPlain parts.edges → RefusesEdges s parts.edges e
   pub refused : ArePlain parts.edges parts.list → IsRunRefusal s parts.edges parts.list e
+
+-- a beginning of that report is appended, and not all of it
+pub record BeginsToReport (s : Settings) (counted : Bool) (input : List ℕ)
+    (old new : Option (List ℕ)) : Type 0 where
+  pub parts : Parts
+  pub found : parts_in counted false input ≡ Ok parts
+  pub begun : ArePlain parts.edges parts.list →
+      BeginsReport s parts.edges parts.list old new
 
 -- what a fault says of the options, and of the input that a reader tells: only a run with a list reads it whole, and all
 -- that it may lack is the list
@@ -81,3 +90,7 @@ pub record FailsJob (o : RunOptions) (counted : Bool) (r : Reads) (w : Writes) (
   pub listed : counted ≡ true → RefusesListed r e
   pub unlisted : counted ≡ false → RefusesUnlisted r e
   pub kept : KeptOrFailed w
+  pub write : e ≡ fault.Run run_fault.Write → RisesByOne w.failed.old w.failed.new
+  pub written : e ≢ fault.Run run_fault.Write → w.failed.new ≡ w.failed.old
+  pub begun : e ≡ fault.Run run_fault.Write → IfSome r.bytes.old (λ input.
+      BeginsToReport (settings_of (run_job o)) counted input w.contents.old w.contents.new)

@@ -7,7 +7,7 @@ use Rattle.ball_model.specs.RunText.{ArePlain}
 use Rattle.ball_model.specs.Streams.{Rises, RisesByOne}
 use Rattle.ball_model.specs.WorldText.{AppendsReplay, HasCommands}
 use Rattle.hyperball.specs.CommandLine.{Parsers, TakeNames, hyperball_app}
-use Rattle.hyperball.specs.Streams.{KeptOrFailed, Reads, Writes}
+use Rattle.hyperball.specs.Streams.{Reads, Writes}
 use Rattle.hyperball.specs.Whole.{ReadsWhole, parts_in}
 use Rattle.hyperball.specs.Words.{AreJobOptionsOf, IsFlag, IsNumberOr}
 use Rattle.hyperball.specs.declared.cli.replay.ReplayWords.{ReplayWords}
@@ -64,10 +64,11 @@ pub record Answers (v : ReplayWords) (input : List ℕ) (old new : Option (List 
   pub appended : ArePlain edges list →
       AppendsReplay (replay_of v.options) edges list script old new
 
--- a replay is done: its answers were appended, and no call of the reader failed
+-- a replay is done: its answers were appended, and no call failed
 pub record DoesReplay (v : ReplayWords) (r : Reads) (w : Writes) : Type 0 where
   pub answered : IfSome r.bytes.old (λ input. Answers v input w.contents.old w.contents.new)
   pub unfailed : Rises r.failed.old r.failed.new → ⊥
+  pub written : w.failed.new ≡ w.failed.old
 
 -- nothing or a beginning of these answers is appended
 pub record BeginsAnswers (v : ReplayWords) (input : List ℕ) (old new : Option (List ℕ)) :
@@ -120,9 +121,9 @@ abbrev pub RefusesLack : ReplayWords → Option (List ℕ) → ReplayFault → T
 RefusesLack v told f = IfSome told (λ input. (missing : Lack) →
     parts_in v.counted true input ≡ Err missing → IsUnread f ⊎ (f ≡ fault.Lacks missing))
 
--- the writer has what it had, or a call of it failed, or it has a beginning of the answers
+-- the writer has what it had, or a beginning of the answers too
 abbrev pub BeginsToServe : ReplayWords → Reads → Writes → Type 0
-BeginsToServe v r w = KeptOrFailed w
+BeginsToServe v r w = Keeps w.contents.old w.contents.new
     ⊎ IfSome r.bytes.old (λ input. BeginsAnswers v input w.contents.old w.contents.new)
 
 -- a replay ends with this fault

@@ -33,6 +33,16 @@ writes_of contents failed old new = record {
   failed = record { old = failed old; new = failed new };
 }
 
+-- nothing was read, and no call failed
+pub record Unread (r : Reads) : Type 0 where
+  pub bytes : r.bytes.new ≡ r.bytes.old
+  pub failed : r.failed.new ≡ r.failed.old
+
+-- nothing was written, and no call failed
+pub record Unwritten (w : Writes) : Type 0 where
+  pub contents : w.contents.new ≡ w.contents.old
+  pub failed : w.failed.new ≡ w.failed.old
+
 -- nothing was read or written, and no call failed
 pub record Untouched (r : Reads) (w : Writes) : Type 0 where
   pub unread : r.bytes.new ≡ r.bytes.old

@@ -1,11 +1,9 @@
 -- What the words of a command line say.
-use Rattle.std.specs.Prelude.{◌≡◌, ◌≢◌, ◌<◌, ◌^◌, ◌||◌, ℕ, Bool, true, false, List, [], Option, Some}
-use Rattle.std.specs.Prelude.{IfOk, IfSome, MatchOption, MatchResult, Result, String, is_some, codes, map, string_bytes}
+use Rattle.std.specs.Prelude.{◌≡◌, ◌≢◌, ◌<◌, ◌^◌, ◌||◌, ℕ, Bool, true, false, List, [], Option, Some, IfOk, IfSome, MatchOption, MatchResult, Result, String, is_some, codes, map, string_bytes}
 use Rattle.std.specs.Global.{Global}
 use Rattle.std.specs.List.{AllByRecursion}
 use Rattle.std.specs.Str.Parse.{IsNumeral, digits_value, without_leading_plus}
-use Rattle.clap.specs.Words.{FailsBy, HasKind, Row, Text, fault_of, first_of, one_of, subcommand_of}
-use Rattle.clap.specs.Words.{subcommand_rows_of}
+use Rattle.clap.specs.Words.{FailsBy, HasKind, Row, Text, fault_of, first_of, one_of, subcommand_of, subcommand_rows_of}
 use Rattle.clap.specs.declared.error.Error.{Error}
 use Rattle.clap.specs.declared.parser.matches.ArgMatches.{ArgMatches}
 use Rattle.clap.specs.declared.error.kind.ErrorKind.{ErrorKind}
@@ -13,8 +11,8 @@ use Rattle.clap.specs.declared.error.kind.ErrorKind.TheVariants as kind
 use Rattle.ball_model.specs.PlanValue.{greatest_limit}
 use Rattle.ball_model.specs.declared.plan.Estimate.{Estimate}
 use Rattle.ball_model.specs.declared.plan.Estimate.TheVariants.{Raw, Corrected}
-use Rattle.edgelist.specs.declared.read.Delimiter.{Delimiter}
-use Rattle.edgelist.specs.declared.read.Delimiter.TheVariants.{Tab, Comma, Space}
+use Rattle.graph.specs.declared.delimiter.Delimiter.{Delimiter}
+use Rattle.graph.specs.declared.delimiter.Delimiter.TheVariants.{Tab, Comma, Space}
 use Rattle.ball_model.specs.declared.names.NodeId.{NodeId}
 use Rattle.edgelist.specs.declared.job.JobOptions.{JobOptions}
 use Rattle.hyperball.specs.declared.cli.run.RunWords.{RunWords}

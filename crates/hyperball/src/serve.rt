@@ -1,14 +1,15 @@
 //! From words and bytes to bytes and a status.
 
-ghost use Rattle.std.specs.Prelude.{◌≡◌, ◌≤◌, ◌⊎◌, [], List, false, IfErr, IfSome, None, OnOk};
-ghost use Rattle.std.specs.Prelude.{Option, ℕ};
+ghost use Rattle.std.specs.Prelude.{◌≡◌, ◌≢◌, ◌≤◌, ◌⊎◌, [], List, false, IfErr, IfSome, None};
+ghost use Rattle.std.specs.Prelude.{OnOk, Option, ℕ};
 ghost use Rattle.std.specs.Io.KnownBytes.{Appends, Keeps};
 ghost use Rattle.clap.specs.Words.{kind_of};
 ghost use Rattle.hyperball.specs.Ends.{Does, Ends, EndsAccepted, EndsMistaken, EndsOfKind};
 ghost use Rattle.hyperball.specs.Ends.{EndsOrders, EndsRefused, FailsBy, LeavesFault};
 ghost use Rattle.hyperball.specs.Ends.{LeavesRefused};
 ghost use Rattle.hyperball.specs.Progress.{Awaits, TellsAsAsked, TellsProgress};
-ghost use Rattle.hyperball.specs.Streams.{AppendsSome, KeptOrFailed, reads_of, writes_of};
+ghost use Rattle.hyperball.specs.Streams.{AppendsSome, KeptOrFailed, Unread, Unwritten};
+ghost use Rattle.hyperball.specs.Streams.{reads_of, writes_of};
 ghost use Rattle.hyperball.specs.Whole.{ReadsFew};
 ghost use Rattle.hyperball.specs.Wishes.{IsWish, ReadsAll};
 ghost use Rattle.hyperball.specs.Words.{AsksProgress, FailsFor, HasFaults, texts_of};
@@ -88,6 +89,9 @@ fn tell_clap<W: CountedWrite, F: Write>(
     ensures status { EndsOfKind (kind_of error.now) result }
     ensures left { LeavesRefused result
         (writes_of W.contents W.failed_calls writer.old writer.new) }
+    ensures unwritten { kind_of error.now ≢ ErrorKind.DisplayHelp →
+        kind_of error.now ≢ ErrorKind.DisplayVersion →
+        Unwritten (writes_of W.contents W.failed_calls writer.old writer.new) }
     ensures silent { result ≡ 0 → Keeps (F.contents faults.old) (F.contents faults.new) }
 {
     match error.kind() {
@@ -130,6 +134,8 @@ fn tell_words<W: CountedWrite, F: Write>(
         EndsRefused kinds result
         (writes_of W.contents W.failed_calls writer.old writer.new) }
     ensures accepted { FailsFor [] error.now → EndsAccepted error.now result }
+    ensures unwritten { FailsFor [] error.now →
+        Unwritten (writes_of W.contents W.failed_calls writer.old writer.new) }
     ensures left { LeavesRefused result
         (writes_of W.contents W.failed_calls writer.old writer.new) }
     ensures silent { result ≡ 0 → Keeps (F.contents faults.old) (F.contents faults.new) }
@@ -233,7 +239,7 @@ fn fulfil<
 /// nothing goes to `faults`, unless `--progress` asks for progress there, and then lines of progress alone. 1: a fault,
 /// in one line on `faults`; nothing was written, with two exceptions: a beginning, if a write failed, or memory was
 /// refused in a replay or for the report of checkpoints; and what a node answered before. 2: words that are refused, as
-/// `clap` reports it there, or a list of orders that is not of its form; nothing was written.
+/// `clap` reports it there, or a list of orders that is not of its form; nothing was read or written.
 ///
 /// The first word is the program's name. With `--counted`, and by a replay, the input is read whole, at most 67,108,865
 /// bytes of it: the edge list, a line of exactly `%%`, the list of counted vertices if there is one, and for a replay a
@@ -251,12 +257,15 @@ pub fn serve<
     ensures refused { (kinds : List ErrorKind) → HasFaults (texts_of words.now) kinds →
         EndsRefused kinds result
         (writes_of W.contents W.failed_calls writer.old writer.new) }
+    ensures unread { (kinds : List ErrorKind) → HasFaults (texts_of words.now) kinds → kinds ≢ [] →
+        Unread (reads_of R.remaining R.failed_calls R.sure_calls reader.old reader.new) }
     ensures status { result ≤ 2 }
     ensures one { result ≡ 1 → LeavesFault (texts_of words.now)
         (reads_of R.remaining R.failed_calls R.sure_calls reader.old reader.new)
         (writes_of W.contents W.failed_calls writer.old writer.new) }
     // If clap accepts the words, status 2 comes only from a list of orders that is not of its form.
     ensures two { result ≡ 2 → EndsMistaken (texts_of words.now)
+        (reads_of R.remaining R.failed_calls R.sure_calls reader.old reader.new)
         (writes_of W.contents W.failed_calls writer.old writer.new) }
     ensures told { result ≡ 0 → TellsAsAsked (AsksProgress (texts_of words.now) false)
         (F.contents faults.old) (F.contents faults.new) }

@@ -1,5 +1,5 @@
 //! What no clause says, and no run of the program shows: what words are read as, printed texts, and memory and streams
-//! that fail. (`examples/check` tries the rest: reports, answers, faults, help and statuses.) A case is constant data:
+//! that fail. (`tests/check` tries the rest: reports, answers, faults, help and statuses.) A case is constant data:
 //! words, an input, and what comes of them. What is written, to the output and to the faults, is compared as it comes,
 //! and kept nowhere.
 

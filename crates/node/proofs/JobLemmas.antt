@@ -1,9 +1,7 @@
 -- The job that was read.
-use Rattle.std.proofs.Common.{◌≡◌, ◌≢◌, ◌∙◌, ℕ, ◌+◌, ◌≤◌, ◌==◌, ◌||◌, Bool, true, false, nat_lt, if◌then◌else◌, List, [], ◌∷◌, ◌++◌, length, length-append, arith, refl, ap, sym, subst}
-use Rattle.std.specs.Prelude.{Option, None, Some, IfSome, Result, Ok, Err}
+use Rattle.std.proofs.Common.{◌≡◌, ◌≢◌, ◌∙◌, ℕ, ◌+◌, ◌≤◌, ◌==◌, ◌||◌, Bool, true, false, nat_lt, if◌then◌else◌, List, [], ◌∷◌, ◌++◌, length, length-append, arith, refl, ap, sym, subst, inl, inr}
+use Rattle.std.specs.Prelude.{Option, None, Some, IfSome, Result, Ok, Err, IsErrAnd, IsOk, is_ok}
 use Rattle.std.specs.Io.KnownBytes.{IsAtEnd, prepend_known}
-use Rattle.std.specs.Prelude.{IsErrAnd, IsOk, is_ok}
-use Rattle.std.proofs.Common.{inl, inr}
 use Rattle.node.specs.declared.error.ServeNodeError.{ServeNodeError}
 use Rattle.node.specs.declared.error.ServeNodeError.TheVariants as nonode
 use Rattle.ball_model.specs.declared.plan.PlanError.TheVariants as fault
@@ -12,11 +10,11 @@ use Rattle.ball_model.specs.Counting.{counted_of}
 use Rattle.ball_model.specs.PlanValue.{PlanValue, greatest_limit, greatest_log2m, least_log2m, most_parts, plan_within}
 use Rattle.ball_model.specs.RunText.{Numbers, Settings, plan_asked, plan_over, run_limits}
 use Rattle.edgelist.specs.Reading.{Refuses}
-use Rattle.edgelist.specs.declared.read.EdgeError.{EdgeError}
-use Rattle.edgelist.specs.declared.read.EdgeError.TheVariants as unread
+use Rattle.edgelist.specs.declared.limits.EdgeError.{EdgeError}
+use Rattle.edgelist.specs.declared.limits.EdgeError.TheVariants as unread
 use Rattle.edgelist.specs.Given.{IsGivenUnder}
 use Rattle.edgelist.specs.declared.pieces.EdgeReader.{EdgeReader}
-use Rattle.edgelist.specs.declared.read.Delimiter.{Delimiter}
+use Rattle.graph.specs.declared.delimiter.Delimiter.{Delimiter}
 use Rattle.node.specs.declared.error.JobInputError.{JobInputError}
 use Rattle.node.specs.declared.error.JobInputError.TheVariants as nojob
 use Rattle.node.specs.Job.{CountsSome, GivesAll, GivesEdges, GivesSection, IsJobRead, IsPlanned, SaysNetwork}

@@ -5,7 +5,7 @@ use Rattle.ball_model.specs.PlanValue.{PlanValue}
 use Rattle.ball_model.specs.RunText.{Numbers, Settings, counted_in, network_in, plan_asked, plan_over}
 use Rattle.edgelist.specs.Given.{IsGivenUnder}
 use Rattle.edgelist.specs.declared.pieces.EdgeReader.{EdgeReader}
-use Rattle.edgelist.specs.declared.read.Delimiter.{Delimiter}
+use Rattle.graph.specs.declared.delimiter.Delimiter.{Delimiter}
 use Rattle.node.specs.declared.limits.TheConstants.{MOST_BYTES}
 use Rattle.node.specs.Section.{HasNoMark, ReadsSection}
 

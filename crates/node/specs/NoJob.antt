@@ -5,11 +5,11 @@ use Rattle.ball_model.specs.Input.{IsPlain, Network, Refusal}
 use Rattle.ball_model.specs.PlanValue.{PlanValue}
 use Rattle.ball_model.specs.RunText.{Settings, network_in, plan_asked}
 use Rattle.ball_model.specs.declared.plan.PlanError.{PlanError}
-use Rattle.edgelist.specs.Counting.{RefusesList}
+use Rattle.graph.specs.Counting.{RefusesList}
 use Rattle.edgelist.specs.Reading.{Refuses}
-use Rattle.edgelist.specs.declared.counting.CountedError.{CountedError}
-use Rattle.edgelist.specs.declared.read.EdgeError.{EdgeError}
-use Rattle.edgelist.specs.declared.read.EdgeError.TheVariants as unread
+use Rattle.graph.specs.declared.counting.CountedError.{CountedError}
+use Rattle.edgelist.specs.declared.limits.EdgeError.{EdgeError}
+use Rattle.edgelist.specs.declared.limits.EdgeError.TheVariants as unread
 use Rattle.node.specs.declared.error.JobInputError.{JobInputError}
 use Rattle.node.specs.declared.error.JobInputError.TheVariants as fault
 use Rattle.node.specs.declared.limits.TheConstants.{MOST_BYTES}

@@ -8,7 +8,7 @@ ghost use Rattle.ball_model.specs.Job.{Job, IsJob, job_of, part_of};
 ghost use Rattle.ball_model.specs.State.{State};
 ghost use Rattle.ball_model.specs.Streams.{RisesByOne};
 ghost use Rattle.checkpoint.specs.Reading.{most_checkpoint_bytes};
-ghost use Rattle.edgelist.specs.Feeding.{feeds_of};
+ghost use Rattle.graph.specs.Feeding.{feeds_of};
 ghost use Rattle.edgelist.specs.Job.{settings_of};
 ghost use Rattle.report.specs.Ready.{are_ready};
 ghost use Rattle.node.specs.Gathering.{Gathers, GathersJob, ReadsAll, ReadsCheckpoint, part_line};

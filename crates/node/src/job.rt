@@ -10,7 +10,7 @@ ghost use Rattle.ball_model.specs.Streams.{RisesByOne};
 ghost use Rattle.edgelist.specs.Given.{IsGivenUnder};
 ghost use Rattle.edgelist.specs.Job.{numbers_asked, settings_of};
 ghost use Rattle.edgelist.specs.Reading.{meaning_under};
-ghost use Rattle.edgelist.specs.declared.read.Delimiter.{Delimiter};
+ghost use Rattle.graph.specs.declared.delimiter.Delimiter.{Delimiter};
 ghost use Rattle.node.specs.Job.{CountsSome, GivesEdges, HasRecords, IsJobRead, SaysNetwork};
 ghost use Rattle.node.specs.NoJob.{GoesBeyond, IsNoJob, IsNoNetwork, IsUncounted, IsUnlisted};
 ghost use Rattle.node.specs.NoJob.{IsUnplanned};

@@ -1,5 +1,5 @@
 //! What no clause says, and no run of the program shows: what a watch is called with, and that each answer is passed
-//! on. (`examples/check` tries the rest: answers, checkpoints, reports, and inputs that are damaged or cut.) Counters
+//! on. (`tests/check` tries the rest: answers, checkpoints, reports, and inputs that are damaged or cut.) Counters
 //! have 16 registers under seed 0.
 
 mod flushed;

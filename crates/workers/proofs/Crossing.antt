@@ -4,7 +4,7 @@ use Rattle.std.proofs.Crossing.{crosses, send as heap_send, sync as heap_sync}
 use Rattle.atomic_table.proofs.shared.Shared.TheSendSync as table
 use Rattle.atomic_table.proofs.send_lease.SendLease.TheSendSync as lease
 use Rattle.board.proofs.Crossing.{seat_send}
-use Rattle.edgelist.proofs.Crossing.{shared_part_send}
+use Rattle.graph.proofs.Crossing.{shared_part_send}
 use Rattle.replica.proofs.Crossing.{first_send, targets_send}
 use Rattle.workers.specs.contracts.indexed.ReadyPart as ready
 use Rattle.workers.specs.contracts.job.Post as post

@@ -1,7 +1,10 @@
 -- The nodes of a job: their threads, their ends, and what is put together of these.
-use Rattle.std.proofs.Common.{◌≡◌, ◌≢◌, ◌<◌, ◌+◌, ◌-◌, ℕ, zero, suc, List, [], ◌∷◌, ◌++◌, length, map, Bool, true, false, ◌&&◌, refl, sym, ap, ◌∙◌, subst, arith, inl, inr, slice_index_or, length-append}
+use Rattle.std.proofs.Common.{◌≡◌, ◌≢◌, ◌<◌, ◌≤◌, ◌+◌, ◌-◌, ℕ, zero, suc, List, [], ◌∷◌, ◌++◌, length, map, Bool, true, false, ◌&&◌, refl, sym, ap, ◌∙◌, subst, arith, inl, inr, slice_index_or, length-append}
+use Rattle.std.specs.Result.{result_ok}
 use Rattle.std.specs.Prelude.{Option, Some, IfSome, IfOk, IfErr, is_some, Result, Ok, Err}
 use Rattle.std.proofs.lemmas.Bool.{and_parts, cases_eq}
+use Rattle.std.proofs.lemmas.Bool.Decides.{nat_tests}
+use Rattle.ball_model.specs.declared.plan.TheConstants.{MOST_REPLICAS}
 use Rattle.ball_model.specs.Caller.{Caller, IsCaller}
 use Rattle.ball_model.specs.Job.{Job}
 use Rattle.ball_model.specs.State.{State}
@@ -16,7 +19,7 @@ use Rattle.workers.specs.declared.worker.node_run.NodeError.{NodeError}
 use Rattle.workers.specs.declared.options.RunOptions.{RunOptions}
 use Rattle.workers.specs.declared.assignment.Assignment.{Assignment}
 use Rattle.workers.specs.Node.{IfDone, IsDone}
-use Rattle.workers.specs.Options.{order_for, orders_for}
+use Rattle.workers.specs.Options.{are_in_limits, order_for, orders_for}
 use Rattle.workers.specs.Ends.{done_of, each_has_done, first_done, first_fault, first_some}
 use Rattle.workers.specs.Job.{AreEnds, AreNoted, EachAt, HasRun, HasSplit, IsAssigned, IsFirstFault, IsNodeEnd, IsPartEnd, IsPartStarted, KeepsItsOrders, job_in}
 use Rattle.workers.proofs.EndsLemmas.{done_map, first_map}
@@ -161,7 +164,16 @@ first_of_ends items j o xs (Err e) all first lacking = λ other. record {
   first = first other ∙ first_map items xs;
 }
 
+-- a run has so many replicas at most
+pub few_replicas : (o : RunOptions) → are_in_limits o ≡ true → o.replicas ≤ MOST_REPLICAS
+few_replicas o within = grind (arith, nat_tests, within)
+
 -- ---- threads that are started
+-- a thread that there is, by what was answered where there could be none
+pub started_some : {H E : Type 0} (says : H → Type 0) (r : Result H E) (child : Option H) → child ≡ result_ok r → IfOk r says → IfSome child says
+started_some {H = H} says (Ok h) child is one = subst (λ (o : Option H). IfSome o says) (sym is) one
+started_some {H = H} says (Err e) child is one = subst (λ (o : Option H). IfSome o says) (sym is) tt
+
 pub split_more : (b : BoardView) (j : Job) (n : ℕ) (v w : SeatView) → HasSplit b j n v → SharesNumbers v w → w.room ≡ v.room - share v.room → HasSplit b j (n + 1) w
 split_more b j n v w h kept left =
     let least = h.least in

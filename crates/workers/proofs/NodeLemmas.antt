@@ -15,7 +15,7 @@ use Rattle.workers.specs.declared.worker.node_run.NodeOrders.{NodeOrders}
 use Rattle.workers.specs.Job.{HasRun}
 use Rattle.workers.specs.Tie.{HasPath, IsPath}
 use Rattle.workers.specs.Superstep.{EndsAs, IsFate, end_with}
-use Rattle.workers.proofs.PathLemmas.{gone_nowhere, left, left_by, paths_are_of_nodes, wandered}
+use Rattle.workers.proofs.PathLemmas.{gone_nowhere, left, left_by, path_is_of_part, wandered}
 use Rattle.workers.proofs.SeenLemmas.{extends_self}
 
 pub ended : (v : Caller) (p : ℕ) (orders : NodeOrders) (r : State) (f : Result Fate NodeError) (w : Caller) → p < v.seen.job.plan.parts →
@@ -129,6 +129,6 @@ never_ran j entries p orders below =
       start = refl;
       seen = extends_self v legal;
       ends = ends;
-      made = paths_are_of_nodes v v p ends.path.new [] below refl (wandered orders.keep v v p (start_holding v.seen.job.plan p) ends.path.new ends.path.come) ([], refl);
+      made = path_is_of_part v v p ends.path.new [] below refl (wandered orders.keep v v p (start_holding v.seen.job.plan p) ends.path.new ends.path.come) ([], refl);
       full = λ same. absurd (cc);
     }

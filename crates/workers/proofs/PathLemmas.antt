@@ -1,5 +1,6 @@
 -- The path of a node: what it holds, from call to call.
 use Rattle.std.proofs.Common.{◌≡◌, ◌≢◌, ℕ, ◌<◌, true, false, List, [], ◌∷◌, ◌++◌, refl, sym, ap, ◌∙◌, subst, inl, inr, arith, append_assoc, append-nil}
+use mathlib.Core.List.{IsPrefix}
 use Rattle.std.proofs.lemmas.Bool.{cases_eq}
 use Rattle.std.proofs.lemmas.List.{append_cancel_left}
 use Rattle.std.specs.Prelude.{Result, Ok, Err}
@@ -28,7 +29,7 @@ use Rattle.replica.proofs.LevelLemmas.Level.{plan_is, number_is}
 use Rattle.replica.proofs.RunsLemmas.Run.{has_content, made}
 use Rattle.replica.proofs.RunsLemmas.Same.{content_is_one}
 use Rattle.workers.specs.Node.{is_kept_at}
-use Rattle.workers.specs.Tie.{Step, Calls, Closes as ClosesUp, StartsAnew, after_board_call, after_step, after_steps, IsOwnName, IsOwnCall, IsOwnStep, AreOwnSteps, SparesLast, AllSpareLast, calls_among, IsKeptAmong, KeepsAsTold, AllKeepAsTold, IsPath, HasPath, HasCome, HasGone, KeptIfTold, HasWandered, Reaches, AreOfNode, IsRunOfWorld, PathsAreOfNodes, ReplicasAreOfRuns}
+use Rattle.workers.specs.Tie.{Step, Calls, Closes as ClosesUp, StartsAnew, after_board_call, after_step, after_steps, IsOwnName, IsOwnCall, IsOwnStep, AreOwnSteps, SparesLast, AllSpareLast, calls_among, IsKeptAmong, KeepsAsTold, AllKeepAsTold, IsPath, HasPath, HasCome, HasGone, KeptIfTold, HasWandered, Reaches, AreOfNode, IsRunOfWorld, PathsAreOfNodes, ReplicasAreOfRuns, AreOfPart}
 use Rattle.workers.proofs.TieLemmas.{histories_are_runs}
 use Rattle.workers.proofs.SeenLemmas.{kept_among_before}
 use Rattle.workers.proofs.SuperstepLemmas.{name_of_true}
@@ -280,18 +281,22 @@ first_steps j p h (Calls c ∷ steps) (e ∷ made) rest own is =
 first_steps j p h (ClosesUp ∷ steps) (e ∷ made) rest own is = first_more j p h ClosesUp (e ∷ made) own.0 (first_steps j p (after_step j p h ClosesUp) steps (e ∷ made) rest own.1 is)
 first_steps j p h (StartsAnew ∷ steps) (e ∷ made) rest own is = first_more j p h StartsAnew (e ∷ made) own.0 (first_steps j p (after_step j p h StartsAnew) steps (e ∷ made) rest own.1 is)
 
-of_node : (j : Job) (p : ℕ) (made : List HistoryEvent) → p < j.plan.parts → FirstSteps j p (start_holding j.plan p) made → AreOfNode j made
-of_node j p made below f = record {
-  part = p;
+of_part : (j : Job) (p : ℕ) (made : List HistoryEvent) → p < j.plan.parts → FirstSteps j p (start_holding j.plan p) made → AreOfPart j p made
+of_part j p made below f = record {
   steps = f.steps;
   held = after_steps j p (start_holding j.plan p) f.steps;
   path = record { below = below; own = f.own; calls = f.calls; held = refl };
 }
 
+pub path_is_of_part : (v w : Caller) (p : ℕ) (held : Holding) (made : List HistoryEvent) → p < v.seen.job.plan.parts → calls_by v.number v.seen ≡ [] → HasWandered v p (start_holding v.seen.job.plan p) held w → IsPrefix made (calls_by v.number w.seen) → AreOfPart v.seen.job p made
+path_is_of_part v w p held made below none path begins =
+    let all : calls_by v.number w.seen ≡ calls_among path.steps = path.calls ∙ ap (λ (l : List HistoryEvent). l ++ calls_among path.steps) none in
+    of_part v.seen.job p made below (first_steps v.seen.job p (start_holding v.seen.job.plan p) path.steps made begins.0 path.own (begins.1 ∙ all))
+
 pub paths_are_of_nodes : PathsAreOfNodes
 paths_are_of_nodes v w p held made below none path begins =
-    let all : calls_by v.number w.seen ≡ calls_among path.steps = path.calls ∙ ap (λ (l : List HistoryEvent). l ++ calls_among path.steps) none in
-    of_node v.seen.job p made below (first_steps v.seen.job p (start_holding v.seen.job.plan p) path.steps made begins.0 path.own (begins.1 ∙ all))
+    let own : AreOfPart v.seen.job p made = path_is_of_part v w p held made below none path begins in
+    record { part = p; steps = own.steps; held = own.held; path = own.path }
 
 -- the calls of a node that keeps as it is told are a node's
 pub wandered : (keep : ℕ) (v w : Caller) (p : ℕ) (old new : Holding) → IsPath keep v p old new w → HasWandered v p old new w

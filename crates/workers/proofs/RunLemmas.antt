@@ -1,6 +1,6 @@
 -- What a run's refusals say, step by step.
 use Rattle.std.proofs.Common.{◌≡◌, ◌≢◌, ◌∙◌, ℕ, List, ap, false, nat_lt, true, refl, subst, sym}
-use Rattle.std.specs.Prelude.{Option, None, Some, Result, Ok, Err, IfOk, IfErr, IsOk, OnOk, ◌||◌}
+use Rattle.std.specs.Prelude.{Option, None, Some, Result, Ok, Err, IfOk, IfErr, IsOk, OnErr, OnOk, ◌||◌}
 use Rattle.std.specs.Io.KnownBytes.{Appends, Keeps}
 use Rattle.std.proofs.KnownBytes.{Keeps-refl}
 use Rattle.std.specs.Borrow.{Bor}
@@ -9,19 +9,19 @@ use Rattle.ball_model.specs.Input.{Network}
 use Rattle.ball_model.specs.PlanValue.{PlanValue, mixing_of, plan_within}
 use Rattle.ball_model.specs.Report.{report_of}
 use Rattle.ball_model.specs.RunText.{AreRead, HasPlan, IsReport, IsReportOf, Numbers, Settings, list_in, network_in, plan_asked, plan_over, run_limits}
-use Rattle.ball_model.specs.Streams.{Rises, RisesByOne}
+use Rattle.ball_model.specs.Streams.{PutsFront, Rises, RisesByOne}
 use Rattle.ball_model.specs.declared.plan.PlanError.{PlanError}
 use Rattle.ball_model.proofs.BoolLemmas.{by_cases}
 use Rattle.edgelist.specs.Job as edges
 use Rattle.edgelist.specs.Job.{numbers_asked, settings_of}
 use Rattle.edgelist.specs.Reading.{CountsOne}
-use Rattle.edgelist.specs.Records.{ForPlain}
-use Rattle.edgelist.specs.declared.counting.CountedError.TheVariants as counted
+use Rattle.graph.specs.Records.{ForPlain}
+use Rattle.graph.specs.declared.counting.CountedError.TheVariants as counted
 use Rattle.edgelist.specs.declared.job.JobOptions.{JobOptions}
 use Rattle.edgelist.specs.declared.job.NetworkError.{NetworkError}
 use Rattle.edgelist.specs.declared.job.NetworkError.TheVariants as unread
-use Rattle.edgelist.specs.declared.read.EdgeError.{EdgeError}
-use Rattle.edgelist.specs.declared.read.EdgeError.TheVariants as edge
+use Rattle.edgelist.specs.declared.limits.EdgeError.{EdgeError}
+use Rattle.edgelist.specs.declared.limits.EdgeError.TheVariants as edge
 use Rattle.workers.specs.declared.ends.JobError.{JobError}
 use Rattle.workers.specs.declared.ends.JobError.TheVariants as job
 use Rattle.workers.specs.declared.options.RunOptions.{RunOptions}
@@ -31,7 +31,7 @@ use Rattle.workers.specs.declared.runs.RunError.TheVariants.{Write}
 use Rattle.ball_model.specs.Job.{job_of}
 use Rattle.workers.specs.Job.{IsFaultOf, IsFirstFault}
 use Rattle.workers.specs.Options.{are_in_limits, run_job}
-use Rattle.workers.specs.Run.{AddsReport, HasFirstFault, IsFaultIn, IsRunFault, IsRunRefusal, RefusesEdges, WherePlain, job_fault, network_fault}
+use Rattle.workers.specs.Run.{AddsFront, AddsReport, HasFirstFault, IsFaultIn, IsRunFault, IsRunRefusal, RefusesEdges, WherePlain, job_fault, network_fault}
 
 -- what holds of plain bytes, and what follows from it
 pub where_weaker : (o : RunOptions) (told : Option (List ℕ)) (counted : Option (Bor (List ℕ))) (P Q : Settings → List ℕ → Option (List ℕ) → Type 0) → ((input : List ℕ) → P (settings_of (run_job o)) input (list_in counted) → Q (settings_of (run_job o)) input (list_in counted)) → WherePlain o told counted P → WherePlain o told counted Q
@@ -143,6 +143,11 @@ unwritten_edges s told (Err e) ok h input is plain = subst (RefusesEdges s input
 pub wrote : {T W : Type 0} (o : RunOptions) (told : Option (List ℕ)) (counted : Option (Bor (List ℕ))) (contents : W → Option (List ℕ)) (old new : W) (text : List ℕ) (r : Result T RunError) → WherePlain o told counted (λ s input list. IsReport s input list text) → OnOk r (Appends (contents old) (contents new) text) → OnOk r (WherePlain o told counted (AddsReport contents old new))
 wrote o told counted contents old new text (Ok x) report h = where_weaker o told counted (λ s input list. IsReport s input list text) (AddsReport contents old new) (λ input is. record { text = text; report = is; appended = h }) report
 wrote o told counted contents old new text (Err e) report h = tt
+
+-- a beginning of it, where a write failed
+pub wrote_front : {T W : Type 0} (o : RunOptions) (told : Option (List ℕ)) (counted : Option (Bor (List ℕ))) (contents : W → Option (List ℕ)) (old new : W) (text : List ℕ) (r : Result T RunError) → WherePlain o told counted (λ s input list. IsReport s input list text) → OnErr r (PutsFront (contents old) (contents new) text) → r ≡ Err fault.Write → WherePlain o told counted (AddsFront contents old new)
+wrote_front o told counted contents old new text (Ok x) report h is = absurd (cc)
+wrote_front o told counted contents old new text (Err e) report h is = where_weaker o told counted (λ s input list. IsReport s input list text) (AddsFront contents old new) (λ input it. record { text = text; report = it; front = h }) report
 
 pub unwritten : {T : Type 0} (o : RunOptions) (told : Option (List ℕ)) (counted : Option (Bor (List ℕ))) (text : List ℕ) (r : Result T RunError) → WherePlain o told counted (λ s input list. IsReport s input list text) → IfErr r (λ e. e ≡ fault.Write) → WherePlain o told counted (λ s input list. IfErr r (IsRunRefusal s input list))
 unwritten o told counted text (Ok x) report h = where_always o told counted (λ s input list. IfErr {T = ℕ} (Ok 0) (IsRunRefusal s input list)) (λ s input list. tt)
@@ -313,6 +318,7 @@ EndsUnwritten o told counted before after contents failed_calls writer r = recor
   fault : IfErr r (IsFaultIn o);
   first : (f : JobError) → f ≢ job.Memory → r ≡ Err (job_fault f) → WherePlain o told counted (λ s input list. IsRunFault o s input list f);
   untouched : IfErr r (λ e. e ≢ Write → Keeps (contents writer) (contents writer));
+  begun : r ≡ Err Write → WherePlain o told counted (AddsFront contents writer writer);
 }
 
 same_error : {T : Type 0} (e d : RunError) → ◌≡◌ {A = Result T RunError} (Err e) (Err d) → e ≡ d
@@ -333,4 +339,5 @@ ends_unwritten o told counted before after contents failed_calls writer e none w
   fault = none.options;
   first = λ f other is. none.first f other (same_error e (job_fault f) is);
   untouched = λ _. Keeps-refl (contents writer);
+  begun = λ is. absurd (none.unwritten (same_error e fault.Write is));
 }

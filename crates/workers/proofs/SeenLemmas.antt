@@ -11,7 +11,7 @@ use Rattle.std.proofs.lemmas.Bool.{cases_eq}
 use Rattle.replica.specs.Sent.{batch_name}
 use Rattle.workers.specs.Node.{WasMissing, HasPosted, HasToldAll, is_kept_at}
 use Rattle.workers.specs.Superstep.{HasKept, WasWaiting, HasStarved}
-use Rattle.workers.specs.Tie.{IsKeptAmong, HasKeptAt, KeptIfTold}
+use Rattle.workers.specs.Tie.{IsKeptAmong, HasKeptAt, HasKeptFirst, KeptFirstIfTold, KeptIfTold}
 
 pub extends_self : (v : Caller) → IsCaller v → Extends v v
 extends_self v h = record { number = refl; limit = refl; begins = begins_self v.seen; legal = h.legal; fits = h.fits }
@@ -79,6 +79,22 @@ kept_by_call keep v w c kept due =
       made = Keep c h.reply ∷ [];
       calls = h.called.own;
       kept = record { before = []; content = c; reply = h.reply; later = []; is = refl; superstep = refl };
+    }
+
+pub first_by_call : (keep : ℕ) (v w : Caller) (c : Holding) → (is_kept_at keep c.superstep ≡ true → HasKept v c w) → KeptFirstIfTold keep v c.superstep w
+first_by_call keep v w c kept due = let h : HasKept v c w = kept due in record { content = c; reply = h.reply; later = []; calls = h.called.own; superstep = refl }
+
+pub first_later : (keep s : ℕ) (u v w : Caller) → KeptFirstIfTold keep u s v → Extends v w → KeptFirstIfTold keep u s w
+first_later keep s u v w k e due =
+    let h : HasKeptFirst u s v = k due in
+    let es : List HistoryEvent = events_by u.number e.begins.calls.0 in
+    let made : List HistoryEvent = Keep h.content h.reply ∷ h.later in
+    record {
+      content = h.content;
+      reply = h.reply;
+      later = h.later ++ es;
+      calls = own_since u.number v.seen w.seen e.begins ∙ (ap (λ (l : List HistoryEvent). l ++ es) h.calls ∙ append_assoc (calls_by u.number u.seen) made es);
+      superstep = h.superstep;
     }
 
 kept_among_later : (s : ℕ) (made more : List HistoryEvent) → IsKeptAmong s made → IsKeptAmong s (made ++ more)

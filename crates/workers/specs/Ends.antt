@@ -1,6 +1,6 @@
 -- What the ends of all nodes say of the fault of a run: the least partition all of whose nodes were lost, and the least
 -- node that waited in vain.
-use Rattle.std.specs.Prelude.{ℕ, ◌+◌, Bool, true, false, ◌||◌, List, [], ◌∷◌, Option, None, Some, Result, Ok, Err, if◌then◌else◌}
+use Rattle.std.specs.Prelude.{ℕ, ◌+◌, Bool, true, false, not, ◌&&◌, ◌||◌, List, [], ◌∷◌, Option, None, Some, Result, Ok, Err, if◌then◌else◌}
 use Rattle.std.specs.List.{list_all, list_any}
 use Rattle.ball_model.specs.declared.names.NodeId.{NodeId}
 use Rattle.ball_model.specs.State.{State}
@@ -12,6 +12,7 @@ use Rattle.workers.specs.declared.worker.node_run.NodeEnd.{NodeEnd}
 use Rattle.workers.specs.declared.worker.node_run.NodeEnd.TheVariants as ends
 use Rattle.workers.specs.declared.worker.node_run.NodeError.{NodeError}
 use Rattle.workers.specs.declared.worker.node_run.NodeError.TheVariants as fault
+use Rattle.workers.specs.Options.{is_named}
 
 -- a node was lost
 abbrev pub is_lost : Result NodeEnd NodeError → Bool
@@ -26,6 +27,10 @@ is_done (Ok (ends.Done r)) = true
 is_done (Ok (ends.Lost s)) = false
 is_done (Ok (ends.Starved s q)) = false
 is_done (Err e) = false
+
+-- it is a node of the run, of so many partitions and replicas, and ended so before the end of the run
+abbrev pub is_early : ℕ → ℕ → NodeId → Result NodeEnd NodeError → Bool
+is_early parts replicas node r = not (is_done r) && is_named parts replicas node
 
 -- the replica of a node that has reached the end
 abbrev pub done_of : Result NodeEnd NodeError → Option State

@@ -15,12 +15,13 @@ use Rattle.workers.specs.declared.worker.node_run.NodeError.{NodeError}
 use Rattle.workers.specs.declared.worker.node_run.NodeError.TheVariants as fault
 use Rattle.workers.specs.declared.worker.node_run.NodeOrders.{NodeOrders}
 use Rattle.workers.specs.declared.options.RunOptions.{RunOptions}
+use Rattle.workers.specs.declared.running.Running.{Running}
 use Rattle.workers.specs.declared.assignment.Assignment.{Assignment}
 use Rattle.workers.specs.Node.{FallsDue, IfDone, IfLost, IfStarved, IsDone}
 use Rattle.workers.specs.Ends.{each_has_done, first_fault}
-use Rattle.workers.specs.Options.{order_for, orders_for}
+use Rattle.workers.specs.Options.{kept_by, order_for, orders_for}
 use Rattle.workers.specs.Superstep.{EndsAs}
-use Rattle.workers.specs.Tie.{AreOfNode}
+use Rattle.workers.specs.Tie.{AreOfPart}
 
 -- each element has what its place says, if the first one has place k
 abbrev pub EachAt : {A : Type 0} → (ℕ → A → Type 0) → ℕ → List A → Type 0
@@ -46,7 +47,7 @@ pub record HasRun (j : Job) (entries p : ℕ) (orders : NodeOrders)
   pub start : calls_by first.number first.seen ≡ []
   pub seen : Extends first last
   pub ends : EndsAs first p orders r last
-  pub made : AreOfNode j (calls_by first.number last.seen)
+  pub made : AreOfPart j p (calls_by first.number last.seen)
   pub full : IfErr r (λ e. e ≡ fault.BookFull → entries_of last.seen ≡ entries)
 
 -- the job of the plan with another digest
@@ -77,11 +78,12 @@ pub record HasSplit (b : BoardView) (j : Job) (splits : ℕ) (s : SeatView) : Ty
   pub least : 2 ^ 63 ≤ s.room + splits * 2 ^ 53
   pub most : s.room ≤ 2 ^ 63
 
--- what the threads of a run share: its board, its job and what is asked of it
+-- what the threads of a run share: its board, its job, what is asked of it, and which of them have ended too early
 pub record CrewView : Type 0 where
   pub board : BoardView
   pub job : Job
   pub options : RunOptions
+  pub running : Running
 
 -- a board of a job's run of which so much is asked
 pub record IsCrew (b : BoardView) (j : Job) (o : RunOptions) : Type 0 where
@@ -152,7 +154,7 @@ pub record IsFirstFault (j : Job) (o : RunOptions) (e : JobError) : Type 0 where
 pub record AreNoted (parts : ℕ) (o : RunOptions) (f : Faults) : Type 0 where
   pub lost : IfSome f.lost (IsPartitionLost parts o)
   pub alone : parts ≡ 1 → f.starved ≡ None
-  pub alone_fits : parts ≡ 1 → o.keep ≡ 0 → o.restart.items ≡ [] → f.full ≡ false
+  pub alone_fits : parts ≡ 1 → kept_by o ≡ 0 → o.restart.items ≡ [] → f.full ≡ false
 
 -- a replica of each partition, in order, at the end of the job's run
 pub record AreDone (j : Job) (rs : List State) : Type 0 where
@@ -162,6 +164,6 @@ pub record AreDone (j : Job) (rs : List State) : Type 0 where
 -- what a fault of the nodes says of the options
 abbrev pub IsFaultOf : ℕ → RunOptions → JobError → Type 0
 IsFaultOf parts o (job.PartitionLost p) = IsPartitionLost parts o p
-IsFaultOf parts o job.BookFull = parts ≡ 1 → o.keep ≡ 0 → o.restart.items ≢ []
+IsFaultOf parts o job.BookFull = parts ≡ 1 → kept_by o ≡ 0 → o.restart.items ≢ []
 IsFaultOf parts o job.Memory = ⊤
 IsFaultOf parts o (job.Starved node s q) = parts ≢ 1

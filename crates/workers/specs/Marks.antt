@@ -1,6 +1,6 @@
--- Who has ended: a table with a word for each node of a run, which is marked once its node has ended too early, and what
--- is known of the marks.
-use Rattle.std.specs.Prelude.{◌≡◌, ◌≢◌, ℕ, ◌+◌, ◌*◌, ◌<◌, Bool, true, false, List, [], ◌∷◌, length, nat_lt, slice_index, Contains}
+-- Who has ended: a table with a word for each node of a run, which is marked once its node has ended too early, and one
+-- more, which is marked once the run has stopped; and what is known of the marks.
+use Rattle.std.specs.Prelude.{◌≡◌, ◌≢◌, ℕ, ◌+◌, ◌*◌, ◌<◌, ◌⊎◌, Bool, true, false, List, [], ◌∷◌, length, nat_lt, slice_index, Contains}
 use mathlib.Core.Option.{some}
 use lib.ListN.{get_elem?}
 use Rattle.atomic_table.specs.Table.{State, Me, Step}
@@ -10,14 +10,14 @@ use Rattle.ball_model.specs.declared.plan.TheConstants.{MOST_REPLICAS}
 abbrev pub place_at : ℕ → ℕ → ℕ
 place_at p k = p * MOST_REPLICAS + k
 
--- some seat knows that the node at place i has ended
+-- some seat knows that the word at place i is marked
 pub record IsKnown (views : List (List ℕ)) (i : ℕ) : Type 0 where
   pub seat : ℕ
   pub view : List ℕ
   pub at : get_elem? views seat ≡ some view
   pub has : Contains view i
 
--- a table of n words: a word is marked if some seat knows that its node has ended, and no other
+-- a table of n words: a word is marked if some seat knows that it is, and no other
 pub record AreMarked (n : ℕ) (s : State (Unit {0}) (List ℕ)) : Type 0 where
   pub count : length s.words ≡ n
   pub marked : (i : ℕ) → slice_index s.words i ≢ 0 → IsKnown s.views i
@@ -48,3 +48,11 @@ KnowsIfMarked s v n w = w ≡ (with_word (nat_lt 0 n) s.word v.0, v.1)
 -- who knows so much knows that all replicas of partition p have ended
 abbrev pub HaveEnded : ℕ → ℕ → List ℕ → Type 0
 HaveEnded replicas p view = (k : ℕ) → k < replicas → Contains view (place_at p k)
+
+-- the place of a run's stop: the first one after those of its partitions
+abbrev pub stop_place : ℕ → ℕ
+stop_place parts = place_at parts 0
+
+-- who knows so much knows that nothing can come from partition p: its replicas have ended, or the run has stopped
+abbrev pub IsSilent : ℕ → ℕ → ℕ → List ℕ → Type 0
+IsSilent parts replicas p view = HaveEnded replicas p view ⊎ Contains view (stop_place parts)

@@ -1,5 +1,5 @@
 -- What is asked of a run, and which of it fits.
-use Rattle.std.specs.Prelude.{ℕ, Bool, true, ◌&&◌, ◌==◌, nat_le, nat_lt, if◌then◌else◌, List, [], ◌∷◌, Option, None, Some}
+use Rattle.std.specs.Prelude.{ℕ, Bool, true, ◌&&◌, ◌==◌, nat_le, nat_lt, if◌then◌else◌, List, [], ◌∷◌, length, Option, None, Some}
 use Rattle.ball_model.specs.declared.names.NodeId.{NodeId}
 use Rattle.ball_model.specs.declared.plan.TheConstants.{MOST_REPLICAS}
 use Rattle.ball_model.specs.PlanValue.{greatest_limit}
@@ -49,10 +49,18 @@ order_for p k [] = None
 order_for p k (o ∷ more) =
     if (o.0.part == p) && (o.0.replica == k) then Some o.1 else order_for p k more
 
+-- a run has one node, and nobody is to start anew: no call can recall a snapshot
+abbrev pub recalls_nothing : RunOptions → Bool
+recalls_nothing o = (o.parts == 1) && (o.replicas == 1) && (length o.restart.items == 0)
+
+-- every how many supersteps the nodes of a run keep a snapshot; 0 is never
+abbrev pub kept_by : RunOptions → ℕ
+kept_by o = if recalls_nothing o then 0 else o.keep
+
 -- the orders of that replica
 abbrev pub orders_for : RunOptions → ℕ → ℕ → NodeOrders
 orders_for o p k = record {
-  keep = o.keep;
+  keep = kept_by o;
   patience = o.patience;
   lose = order_for p k o.lose.items;
   restart = order_for p k o.restart.items;

@@ -4,10 +4,10 @@ use Rattle.std.specs.Borrow.{Bor}
 use Rattle.ball_model.specs.Input.{Network}
 use Rattle.ball_model.specs.Job.{job_of}
 use Rattle.ball_model.specs.PlanValue.{PlanValue}
-use Rattle.ball_model.specs.RunText.{AppendsReport, ArePlain, AreRead, HasPlan, IsPlanFault}
-use Rattle.ball_model.specs.RunText.{Settings, list_in, network_in, plan_asked}
+use Rattle.ball_model.specs.RunText.{AppendsReport, ArePlain, AreRead, HasPlan, IsPlanFault, IsReport, Settings, list_in, network_in, plan_asked}
+use Rattle.ball_model.specs.Streams.{PutsFront}
 use Rattle.edgelist.specs.Reading.{Refuses}
-use Rattle.edgelist.specs.Counting.{IsListRefusal}
+use Rattle.graph.specs.Counting.{IsListRefusal}
 use Rattle.edgelist.specs.Job.{numbers_asked, settings_of}
 use Rattle.edgelist.specs.declared.job.NetworkError.{NetworkError}
 use Rattle.edgelist.specs.declared.job.NetworkError.TheVariants as unread
@@ -29,6 +29,18 @@ WherePlain o told counted holds = IfSome told (λ input.
 abbrev pub AddsReport : {W : Type 0} → (W → Option (List ℕ)) → W → W →
     Settings → List ℕ → Option (List ℕ) → Type 0
 AddsReport contents old new s input list = AppendsReport s input list (contents old) (contents new)
+
+-- a beginning of the report of the input is appended, and not all of it
+pub record BeginsReport (s : Settings) (input : List ℕ) (list : Option (List ℕ))
+    (old new : Option (List ℕ)) : Type 0 where
+  pub text : List ℕ
+  pub report : IsReport s input list text
+  pub front : PutsFront old new text
+
+-- a writer of these contents is given a beginning of the report of what is asked, and not all of it
+abbrev pub AddsFront : {W : Type 0} → (W → Option (List ℕ)) → W → W →
+    Settings → List ℕ → Option (List ℕ) → Type 0
+AddsFront contents old new s input list = BeginsReport s input list (contents old) (contents new)
 
 -- both say a network, over which there is such a plan
 pub record IsRunPlanned (s : Settings) (input : List ℕ) (list : Option (List ℕ)) : Type 0 where

@@ -21,7 +21,7 @@ use Rattle.workers.specs.declared.worker.superstep.Found.TheVariants as found
 use Rattle.workers.specs.declared.worker.superstep.SuperstepEnd.{SuperstepEnd}
 use Rattle.workers.specs.declared.worker.superstep.SuperstepEnd.TheVariants as superstep_end
 use Rattle.workers.specs.Node.{FallsDue, HasToldAll, IfDone, IfLost, IfStarved, IsDone, WasMissing}
-use Rattle.workers.specs.Tie.{HasReached, IsNodePath, IsPath, IsPathTo, KeptIfTold}
+use Rattle.workers.specs.Tie.{HasReached, IsNodePath, IsPath, IsPathTo, KeptFirstIfTold, KeptIfTold}
 
 -- the replica stands for partition p of the caller's job, at its superstep
 abbrev pub StandsIn : Caller → ℕ → State → Type 0
@@ -62,13 +62,14 @@ IsSuperstepEnd v p r superstep_end.Over w = HasToldAll v r.superstep p w × Ends
 IsSuperstepEnd v p r (superstep_end.Starved q) w = HasStarved v r.superstep q p w
 
 -- a node of partition p, whose replica was `old`, ended a superstep so: what that says of the replica, and that it is at
--- another superstep only to go on; what was to be kept is; and the calls since then are a path
+-- another superstep only to go on; what was to be kept is, before any other call; and the calls since then are a path
 pub record EndsSuperstep (keep : ℕ) (v : Caller) (p : ℕ) (old new : State) (end : SuperstepEnd)
     (w : Caller) : Type 0 where
   pub stands : StandsIn v p new
   pub is : IsSuperstepEnd v p new end w
   pub stays : end ≢ superstep_end.Next → new.superstep ≡ old.superstep
   pub kept : KeptIfTold keep v old.superstep w
+  pub kept_first : KeptFirstIfTold keep v old.superstep w
   pub came : IsPath keep v p (holding_in old) (holding_in new) w
 
 -- what a fate says of the replica, as it is then

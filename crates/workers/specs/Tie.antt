@@ -170,6 +170,18 @@ pub record HasKeptAt (v : Caller) (s : ℕ) (w : Caller) : Type 0 where
 abbrev pub KeptIfTold : ℕ → Caller → ℕ → Caller → Type 0
 KeptIfTold keep v s w = is_kept_at keep s ≡ true → HasKeptAt v s w
 
+-- the first of the caller's own calls since then is a keep of superstep s, if that is to be kept
+pub record HasKeptFirst (v : Caller) (s : ℕ) (w : Caller) : Type 0 where
+  pub content : Holding
+  pub reply : Kept
+  pub later : List HistoryEvent
+  pub calls : calls_by v.number w.seen
+      ≡ calls_by v.number v.seen ++ Keep content reply ∷ later
+  pub superstep : content.superstep ≡ s
+
+abbrev pub KeptFirstIfTold : ℕ → Caller → ℕ → Caller → Type 0
+KeptFirstIfTold keep v s w = is_kept_at keep s ≡ true → HasKeptFirst v s w
+
 -- from its start, by these steps with these calls, a node of partition p comes to hold c
 pub record Reaches (j : Job) (p : ℕ) (made : List HistoryEvent) (steps : List Step)
     (c : Holding) : Type 0 where
@@ -177,6 +189,12 @@ pub record Reaches (j : Job) (p : ℕ) (made : List HistoryEvent) (steps : List 
   pub own : AreOwnSteps j p (start_holding j.plan p) steps
   pub calls : calls_among steps ≡ made
   pub held : after_steps j p (start_holding j.plan p) steps ≡ c
+
+-- the calls are those of a node of partition p
+pub record AreOfPart (j : Job) (p : ℕ) (made : List HistoryEvent) : Type 0 where
+  pub steps : List Step
+  pub held : Holding
+  pub path : Reaches j p made steps held
 
 -- the calls are those of a node of some partition
 pub record AreOfNode (j : Job) (made : List HistoryEvent) : Type 0 where

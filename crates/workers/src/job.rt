@@ -1,19 +1,23 @@
 //! All nodes of a job: a thread for each, and one board between them.
 
-ghost use Rattle.std.specs.Prelude.{◌≡◌, ◌≢◌, ◌<◌, ◌+◌, ◌*◌, ℕ, true, IfOk, IfErr, IfSome, []};
+ghost use Rattle.std.specs.Prelude.{◌≡◌, ◌≢◌, ◌<◌, ◌+◌, ◌*◌, ℕ, true, IfOk, IfErr, IfSome, [], ◌∷◌};
+ghost use Rattle.std.specs.Prelude.{is_some};
 ghost use Rattle.ball_model.specs.History.{calls_by};
 ghost use Rattle.ball_model.specs.Job.{Job, IsJob, job_of, part_of};
 ghost use Rattle.ball_model.specs.declared.plan.TheConstants.{MOST_REPLICAS};
 ghost use Rattle.workers.specs.Job.{AreDone, AreEnds, AreParts, AreStarted, HasSplit, IsAssigned};
 ghost use Rattle.workers.specs.Job.{IsFaultOf, IsFirstFault, IsNodeEnd, IsPartEnd, IsPartStarted};
 ghost use Rattle.workers.specs.Job.{HasRun, IsSeatOf, KeepsItsOrders};
-ghost use Rattle.workers.specs.Options.{are_in_limits, order_for, orders_for};
+ghost use Rattle.workers.specs.Ends.{is_early};
+ghost use Rattle.workers.specs.Marks.{place_at, stop_place};
+ghost use Rattle.workers.specs.Options.{are_in_limits, is_named, kept_by, order_for, orders_for};
 
 use crate::assignment::{Assignment, NodeResult};
-use crate::ends::{JobError, done_replicas, is_done};
+use crate::ends::{JobError, done_replicas};
 use crate::exchange::BoardExchange;
 use crate::gate::Gate;
 use crate::indexed::ReadyPart;
+use crate::marks::Look;
 use crate::options::RunOptions;
 use crate::planned::Planned;
 use crate::running::{RunGate, Running};
@@ -34,6 +38,22 @@ use std::thread::{PromisedHandle, Scope, Threads};
 // The thread of a node, if there could be one.
 type Child = Option<PromisedHandle<NodeResult, Assignment>>;
 
+// The thread of a node; if there could be none, what is known of the mark that says so.
+type Started = Result<PromisedHandle<NodeResult, Assignment>, Option<Look>>;
+
+// Every how many supersteps the nodes of a run keep a snapshot. If there is one node, and nobody is to start anew, none is
+// kept: no call could recall it.
+fn kept_by(options: &RunOptions) -> u32
+    ensures { result ≡ kept_by options.now }
+{
+    let one_node = options.parts == 1 && options.replicas == 1;
+    if one_node && options.restart.is_empty() {
+        0
+    } else {
+        options.keep
+    }
+}
+
 // The first order for a node.
 fn order_for(orders: &[(NodeId, u32)], node: NodeId) -> Option<u32>
     ensures { result ≡ order_for node.part node.replica orders.now }
@@ -51,7 +71,7 @@ fn orders_for(options: &RunOptions, node: NodeId) -> NodeOrders
     ensures { result ≡ orders_for options.now node.part node.replica }
 {
     NodeOrders {
-        keep: options.keep,
+        keep: kept_by(options),
         patience: options.patience,
         lose: order_for(&options.lose, node),
         restart: order_for(&options.restart, node),
@@ -67,6 +87,13 @@ struct Post {
     orders: NodeOrders,
 }
 
+/// How a node ended, and what is known of its mark if that was before the end of the run.
+#[derive(Drop)]
+struct Ended {
+    end: NodeResult,
+    told: Option<Look>,
+}
+
 // Runs a node at its seat, and tells the others if it ends before the end of the run.
 fn run_at<R: AllocGlobal + Threads + Wait + Sync, G: Gate + Watch>(
     rt: &R,
@@ -74,15 +101,20 @@ fn run_at<R: AllocGlobal + Threads + Wait + Sync, G: Gate + Watch>(
     gate: &G,
     running: &Running,
     post: Post,
-) -> NodeResult
+) -> Ended
     requires seat { IsSeatOf board.now post.seat.caller.seen.job post.seat }
     requires start { calls_by post.seat.caller.number post.seat.caller.seen ≡ [] }
     requires job { IsJob post.seat.caller.seen.job }
     requires node { post.node.part < post.seat.caller.seen.job.plan.parts }
     requires part { post.part ≡ part_of post.seat.caller.seen.job post.node.part }
-    ensures orders { KeepsItsOrders post.seat.caller.seen.job post.node.part post.orders result }
+    ensures orders { KeepsItsOrders post.seat.caller.seen.job post.node.part post.orders
+        result.end }
     ensures ran { HasRun post.seat.caller.seen.job board.now.limit post.node.part post.orders
-        result }
+        result.end }
+    ensures told { is_some result.told ≡
+        is_early running.now.parts running.now.replicas post.node result.end }
+    ensures known { IfSome result.told (λ look.
+        look.me ≡ (place_at post.node.part post.node.replica ∷ [], [])) }
 {
     let Post {
         seat,
@@ -100,10 +132,8 @@ fn run_at<R: AllocGlobal + Threads + Wait + Sync, G: Gate + Watch>(
         threads: running.threads(),
     };
     let end = worker.run_ready(&mut exchange, part);
-    if !is_done(&end) {
-        running.end(node);
-    }
-    end
+    let told = running.end(node, &end);
+    Ended { end, told }
 }
 
 /// What the threads of a run share.
@@ -128,6 +158,7 @@ impl<'a, R, G> Model for Crew<'a, R, G> {
       board = c.board.now;
       job = job_of c.graph.now.graph c.plan.now;
       options = c.options.now;
+      running = c.running.now;
     } };
 
     ghost invariant = { λ c.
@@ -147,22 +178,26 @@ impl<'a, R: AllocGlobal + Threads + Wait + Sync, G: Gate + Watch + Sync> Crew<'a
         }
     }
 
-    // Starts the thread of a node.
+    // Starts the thread of a node. If there can be none, the others are told.
     fn start_node<'s, X>(
         &'a self,
         scope: &'s Scope<'s, X>,
         seat: Seat,
         part: ReadyPart,
         node: NodeId,
-    ) -> Child
+    ) -> Started
     where
         'a: 's,
         requires seat { IsSeatOf self.now.board self.now.job seat }
         requires start { calls_by seat.caller.number seat.caller.seen ≡ [] }
         requires node { node.part < self.now.job.plan.parts }
         requires part { part ≡ part_of self.now.job node.part }
-        ensures { IfSome result (λ child.
+        ensures started { IfOk result (λ child.
             IsAssigned self.now.job self.now.options node.part node.replica child.promise) }
+        ensures told { IfErr result (λ told.
+            is_some told ≡ is_named self.now.running.parts self.now.running.replicas node) }
+        ensures known { IfErr result (λ told. IfSome told (λ look.
+            look.me ≡ (place_at node.part node.replica ∷ [], []))) }
     {
         let assigned = self.assignment(node);
         let (rt, board, gate, running) = (self.rt, self.board, self.gate, self.running);
@@ -183,12 +218,11 @@ impl<'a, R: AllocGlobal + Threads + Wait + Sync, G: Gate + Watch + Sync> Crew<'a
                 result }
             ensures ran { HasRun post.seat.caller.seen.job board.entry.now.limit post.node.part
                 post.orders result }
-        { run_at(rt, board, gate, running, post) };
-        let child = scope.spawn_with(assigned, work).ok();
-        if child.is_none() {
-            self.running.end(node);
+        { run_at(rt, board, gate, running, post).end };
+        match scope.spawn_with(assigned, work) {
+            Ok(child) => Ok(child),
+            Err(_) => Err(running.end(node, &Err(NodeError::Memory))),
         }
-        child
     }
 
     // Starts the threads of all nodes of a partition, which share its part.
@@ -216,58 +250,63 @@ impl<'a, R: AllocGlobal + Threads + Wait + Sync, G: Gate + Watch + Sync> Crew<'a
             let node = NodeId { part: p, replica };
             let part = part.hand_out(alloc)?;
             let seat = first.split(self.board);
-            children.push(self.start_node(scope, seat, part, node))?;
+            let child = self.start_node(scope, seat, part, node).ok();
+            children.push(child)?;
         }
         Ok(children)
     }
 
-    // Starts the threads of all nodes, partition by partition.
+    // Starts the threads of all nodes, partition by partition. If not all can be started, those that were started are told
+    // to wait no more, and what is given back knows of it.
     fn start_all<'s, X>(
         &'a self,
         scope: &'s Scope<'s, X>,
         mut first: Seat,
         parts: &mut [ReadyPart],
-    ) -> Result<Vec<Vec<Child>>, AllocError>
+    ) -> Result<Vec<Vec<Child>>, Look>
     where
         'a: 's,
         requires parts { AreParts self.now.job parts.old }
         requires seat { HasSplit self.now.board self.now.job 0 first }
-        ensures { IfOk result (λ all. AreStarted (λ child. child.promise) (λ own. own.items)
-            self.now.job self.now.options all.items) }
+        ensures started { IfOk result (λ all. AreStarted (λ child. child.promise)
+            (λ own. own.items) self.now.job self.now.options all.items) }
+        ensures stopped { IfErr result (λ look.
+            look.me ≡ (stop_place self.now.running.parts ∷ [], [])) }
     {
         let count = self.plan.parts();
-        let mut children = Vec::with_capacity(self.rt.alloc(), usize::from(count))?;
+        let Ok(mut children) = Vec::with_capacity(self.rt.alloc(), usize::from(count)) else {
+            return Err(self.running.stop());
+        };
         for p in 0..count {
             let part = &mut parts[usize::from(p)];
-            let own = self.start_part(scope, &mut first, p, part)?;
-            children.push(own)?;
+            let Ok(own) = self.start_part(scope, &mut first, p, part) else {
+                return Err(self.running.stop());
+            };
+            let Ok(()) = children.push(own) else {
+                return Err(self.running.stop());
+            };
         }
         Ok(children)
     }
 
-    // Starts all nodes, waits for all, and puts together what they say. If not all can be started, those that were
-    // started stop waiting.
+    // Starts all nodes, waits for all, and tells how each of them ended. The error is that memory was refused.
     fn run_in<'s, X>(
         &'a self,
         scope: &'s Scope<'s, X>,
         first: Seat,
         parts: &mut [ReadyPart],
-    ) -> Result<Vec<Replica>, JobError>
+    ) -> Result<Vec<Vec<NodeResult>>, AllocError>
     where
         'a: 's,
         requires parts { AreParts self.now.job parts.old }
         requires seat { HasSplit self.now.board self.now.job 0 first }
-        ensures done { IfOk result (λ rs. AreDone self.now.job rs.items) }
-        ensures fault { IfErr result (IsFaultOf self.now.job.plan.parts self.now.options) }
-        ensures first { IfErr result (λ e. e ≢ JobError.Memory →
-            IsFirstFault self.now.job self.now.options e) }
+        ensures { IfOk result (λ ends.
+            AreEnds (λ own. own.items) self.now.job self.now.options ends.items) }
     {
-        let Ok(children) = self.start_all(scope, first, parts) else {
-            self.running.stop();
-            return Err(JobError::Memory);
-        };
-        let ends = join_all(self.rt, children)?;
-        done_replicas(self.rt.alloc(), ends)
+        match self.start_all(scope, first, parts) {
+            Ok(children) => join_all(self.rt, children),
+            Err(_) => Err(AllocError),
+        }
     }
 }
 
@@ -315,22 +354,20 @@ fn join_all<R: AllocGlobal + Threads>(
     Ok(ends)
 }
 
-/// Runs all nodes of a job by the parts of its partitions, a thread each, and gives the replica of each partition at the
-/// end of the run: that of the first of its nodes that is done.
-pub fn run_job<'a, R: AllocGlobal + Threads + Wait + Sync, G: Gate + Watch + Sync>(
+// Runs all nodes of a job by the parts of its partitions, a thread each, and tells how each of them ended. The error is
+// that memory was refused.
+fn run_nodes<'a, R: AllocGlobal + Threads + Wait + Sync, G: Gate + Watch + Sync>(
     rt: &'a R,
     graph: &'a Graph,
     planned: Planned,
     options: &'a RunOptions,
     gate: &'a G,
-) -> Result<Vec<Replica>, JobError>
+) -> Result<Vec<Vec<NodeResult>>, AllocError>
     requires job { IsJob (job_of graph.now.graph planned.plan) }
     requires parts { AreParts (job_of graph.now.graph planned.plan) planned.parts.items }
     requires limits { are_in_limits options.now ≡ true }
-    ensures done { IfOk result (λ rs. AreDone (job_of graph.now.graph planned.plan) rs.items) }
-    ensures fault { IfErr result (IsFaultOf planned.plan.parts options.now) }
-    ensures first { IfErr result (λ e. e ≢ JobError.Memory →
-        IsFirstFault (job_of graph.now.graph planned.plan) options.now e) }
+    ensures { IfOk result (λ ends. AreEnds (λ own. own.items)
+        (job_of graph.now.graph planned.plan) options.now ends.items) }
 {
     let Planned { plan, mut parts } = planned;
     let (board, first) = Board::open(rt.alloc(), graph, &plan, options.entries)?;
@@ -354,14 +391,32 @@ pub fn run_job<'a, R: AllocGlobal + Threads + Wait + Sync, G: Gate + Watch + Syn
     thread::scope(
         thread::scope_env(),
         rt,
-        |scope| -> Result<Vec<Replica>, JobError>
+        |scope| -> Result<Vec<Vec<NodeResult>>, AllocError>
             requires parts { AreParts crew.now.job parts.now }
             requires seat { HasSplit crew.now.board crew.now.job 0 first }
-            ensures done { IfOk result (λ rs. AreDone crew.entry.now.job rs.items) }
-            ensures fault { IfErr result
-                (IsFaultOf crew.entry.now.job.plan.parts crew.entry.now.options) }
-            ensures first { IfErr result (λ e. e ≢ JobError.Memory →
-                IsFirstFault crew.entry.now.job crew.entry.now.options e) }
+            ensures { IfOk result (λ ends. AreEnds (λ own. own.items)
+                crew.entry.now.job crew.entry.now.options ends.items) }
         { crew.run_in(scope, first, parts) },
     )
+}
+
+/// Runs all nodes of a job by the parts of its partitions, a thread each, and gives the replica of each partition at the
+/// end of the run: that of the first of its nodes that is done.
+pub fn run_job<'a, R: AllocGlobal + Threads + Wait + Sync, G: Gate + Watch + Sync>(
+    rt: &'a R,
+    graph: &'a Graph,
+    planned: Planned,
+    options: &'a RunOptions,
+    gate: &'a G,
+) -> Result<Vec<Replica>, JobError>
+    requires job { IsJob (job_of graph.now.graph planned.plan) }
+    requires parts { AreParts (job_of graph.now.graph planned.plan) planned.parts.items }
+    requires limits { are_in_limits options.now ≡ true }
+    ensures done { IfOk result (λ rs. AreDone (job_of graph.now.graph planned.plan) rs.items) }
+    ensures fault { IfErr result (IsFaultOf planned.plan.parts options.now) }
+    ensures first { IfErr result (λ e. e ≢ JobError.Memory →
+        IsFirstFault (job_of graph.now.graph planned.plan) options.now e) }
+{
+    let ends = run_nodes(rt, graph, planned, options, gate)?;
+    done_replicas(rt.alloc(), ends)
 }

@@ -1,4 +1,4 @@
-//! Marks of the nodes of a run that have ended too early: a table with a word for each node, which threads share without a
+//! Marks of the nodes of a run that have ended too early: a table with words for nodes, which threads share without a
 //! lock. Who looks at it, by a seat, knows of words that they are marked; no mark is ever taken back.
 
 ghost use Rattle.std.specs.Prelude.{◌≡◌, ◌<◌, [], ◌∷◌, IfOk};
@@ -8,7 +8,7 @@ use atomic_table::{Play, Seat, Table, TableRule};
 use std::alloc::{AllocError, Global};
 use std::marker::Model;
 
-/// What a seat knows, as clauses see it: the places of nodes that have ended. No value of it is made.
+/// What a seat knows, as clauses see it: the places of words that are marked. No value of it is made.
 pub struct Known {}
 
 impl Model for Known {
@@ -19,7 +19,7 @@ impl Model for Known {
     ghost view = { λ _. [] };
 }
 
-/// A word is marked if some seat knows that its node has ended, and no other.
+/// A word is marked if some seat knows that it is, and no other.
 pub struct Marking;
 
 impl TableRule<(), Known, usize> for Marking {

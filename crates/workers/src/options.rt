@@ -34,7 +34,8 @@ pub struct RunOptions {
     pub replicas: u8,
     /// How many entries the board's history may have, from 2 to 2^24.
     pub entries: u32,
-    /// Each node keeps a snapshot at each superstep that is a multiple of this, up to 4096, and none if it is 0.
+    /// Each node keeps a snapshot at each superstep that is a multiple of this, up to 4096, and none if it is 0. One node
+    /// with no order to start anew keeps none: no call could recall it.
     pub keep: u32,
     /// After so many idle turns in succession, at least 1, a node gives up.
     pub patience: u32,

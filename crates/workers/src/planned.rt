@@ -3,8 +3,8 @@
 
 ghost use Rattle.std.specs.Prelude.{◌≡◌, ◌<◌, ◌^◌, ℕ, IfOk};
 ghost use Rattle.ball_model.specs.Job.{Job, digest_of, job_of, part_of};
-ghost use Rattle.edgelist.specs.Feeding.{feeds_of};
-ghost use Rattle.edgelist.specs.Planning.{signed};
+ghost use Rattle.graph.specs.Feeding.{feeds_of};
+ghost use Rattle.graph.specs.Planning.{signed};
 ghost use Rattle.workers.specs.Job.{AreMade, AreParts, signed_job};
 
 use crate::indexed::{IndexedPart, ReadyPart};

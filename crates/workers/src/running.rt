@@ -1,10 +1,12 @@
 //! What the nodes of a run share: which partitions may still tell something, and how many threads each node has.
 
-ghost use Rattle.std.specs.Prelude.{◌≡◌, ◌*◌, ◌≤◌, [], ◌∷◌, IfOk, IfSome, is_some};
+ghost use Rattle.std.specs.Prelude.{◌≡◌, ◌+◌, ◌*◌, ◌≤◌, [], ◌∷◌, IfErr, IfOk, IfSome, is_some};
 ghost use Rattle.ball_model.specs.declared.plan.TheConstants.{MOST_REPLICAS};
-ghost use Rattle.workers.specs.Marks.{HaveEnded, place_at};
-ghost use Rattle.workers.specs.Options.{is_named};
+ghost use Rattle.workers.specs.Ends.{is_early};
+ghost use Rattle.workers.specs.Marks.{HaveEnded, IsSilent, place_at, stop_place};
 
+use crate::assignment::NodeResult;
+use crate::ends::is_done;
 use crate::gate::{Gate, place_of};
 use crate::marks::{Look, Marked};
 use crate::options::is_named;
@@ -22,7 +24,7 @@ pub struct Running {
     replicas: u8,
     threads: usize,
     ghost few: { replicas ≤ MOST_REPLICAS },
-    ghost places: { marked.words ≡ parts * MOST_REPLICAS },
+    ghost places: { marked.words ≡ parts * MOST_REPLICAS + 1 },
 }
 
 impl Running {
@@ -40,7 +42,7 @@ impl Running {
     {
         let places = usize::from(parts) * usize::from(MOST_REPLICAS);
         Ok(Running {
-            marked: Marked::new(alloc, places)?,
+            marked: Marked::new(alloc, places + 1)?,
             parts,
             replicas,
             threads,
@@ -54,15 +56,15 @@ impl Running {
         self.threads
     }
 
-    /// A node of the run has ended before the end of the run, or never had a thread. What is given back knows of this, and
-    /// of nothing else; None exactly if the run has no such node.
-    pub fn end(&self, node: NodeId) -> Option<Look>
+    /// A node has ended so. If that is before the end of the run it is marked, and what is given back knows of this and of
+    /// nothing else; None exactly if it has reached the end, or the run has no such node.
+    pub fn end(&self, node: NodeId, end: &NodeResult) -> Option<Look>
         ensures table { IfSome result (λ look. look.table_id ≡ self.now.marked) }
         ensures known { IfSome result (λ look.
             look.me ≡ (place_at node.part node.replica ∷ [], [])) }
-        ensures named { is_some result ≡ is_named self.now.parts self.now.replicas node }
+        ensures early { is_some result ≡ is_early self.now.parts self.now.replicas node end.now }
     {
-        if !is_named(self.parts, self.replicas, node) {
+        if is_done(end) || !is_named(self.parts, self.replicas, node) {
             return None;
         }
         let mut look = self.marked.look();
@@ -70,18 +72,60 @@ impl Running {
         Some(look)
     }
 
-    /// Not all nodes have threads, and there will be no further ones: nobody waits any more.
-    pub fn stop(&self) {
-        for part in 0..self.parts {
-            for replica in 0..self.replicas {
-                self.end(NodeId { part, replica });
-            }
+    /// Not all nodes have threads, and there will be no further ones: nobody waits any more. What is given back knows of
+    /// this, and of the end of no node.
+    pub fn stop(&self) -> Look
+        ensures table { result.table_id ≡ self.now.marked }
+        ensures known { result.me ≡ (stop_place self.now.parts ∷ [], []) }
+    {
+        let mut look = self.marked.look();
+        self.marked.mark(&mut look, self.stop_place());
+        look
+    }
+
+    // The word that is marked once the run has stopped: the one after those of its nodes.
+    fn stop_place(&self) -> usize
+        ensures { result ≡ stop_place self.now.parts }
+    {
+        place_of(NodeId {
+            part: self.parts,
+            replica: 0,
+        })
+    }
+
+    // That the run has stopped; None if it goes on.
+    fn stopped(&self) -> Option<Look>
+        ensures table { IfSome result (λ look. look.table_id ≡ self.now.marked) }
+        ensures known { IfSome result (λ look.
+            look.me ≡ (stop_place self.now.parts ∷ [], [])) }
+    {
+        let mut look = self.marked.look();
+        if self.marked.is_marked(&mut look, self.stop_place()) {
+            Some(look)
+        } else {
+            None
         }
     }
 
-    /// That all nodes of a partition have ended before the end of the run; None if the run has no such partition, or one
-    /// of them goes on or has reached the end.
-    pub fn gone(&self, part: u16) -> Option<Look>
+    /// Whether a partition may still tell something. If it may not, what is given back knows that the run has stopped, or
+    /// that all nodes of this partition have ended too early.
+    pub fn may_come(&self, source: u16) -> Result<(), Look>
+        ensures table { IfErr result (λ look. look.table_id ≡ self.now.marked) }
+        ensures silent { IfErr result (λ look.
+            IsSilent self.now.parts self.now.replicas source look.me.0) }
+    {
+        if let Some(look) = self.stopped() {
+            return Err(look);
+        }
+        match self.gone(source) {
+            Some(look) => Err(look),
+            None => Ok(()),
+        }
+    }
+
+    // That all nodes of a partition have ended before the end of the run; None if the run has no such partition, or one
+    // of them goes on or has reached the end.
+    fn gone(&self, part: u16) -> Option<Look>
         ensures table { IfSome result (λ look. look.table_id ≡ self.now.marked) }
         ensures known { IfSome result (λ look.
             HaveEnded self.now.replicas part look.me.0) }
@@ -137,7 +181,7 @@ impl<'a, G: Gate> Gate for RunGate<'a, G> {
     }
 
     fn wait_for(&self, node: NodeId, source: u16) -> bool {
-        self.running.gone(source).is_none() && self.gate.wait_for(node, source)
+        self.running.may_come(source).is_ok() && self.gate.wait_for(node, source)
     }
 }
 

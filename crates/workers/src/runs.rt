@@ -6,15 +6,15 @@ ghost use Rattle.ball_model.specs.Job.{IsJob, job_of};
 ghost use Rattle.ball_model.specs.PlanValue.{mixing_of};
 ghost use Rattle.ball_model.specs.Report.{report_of};
 ghost use Rattle.ball_model.specs.RunText.{network_in};
-ghost use Rattle.ball_model.specs.Streams.{Rises, RisesByOne};
+ghost use Rattle.ball_model.specs.Streams.{PutsFront, Rises, RisesByOne};
 ghost use Rattle.edgelist.specs.Job.{settings_of};
 ghost use Rattle.edgelist.specs.Reading.{CountsOne};
-ghost use Rattle.edgelist.specs.Records.{ForPlain};
+ghost use Rattle.graph.specs.Records.{ForPlain};
 ghost use Rattle.workers.specs.declared.ends.JobError.{JobError as NodesFault};
 ghost use Rattle.workers.specs.Job.{AreDone};
 ghost use Rattle.workers.specs.Options.{are_in_limits, run_job};
-ghost use Rattle.workers.specs.Run.{AddsReport, IsFaultIn, IsRunFault, IsRunRefusal};
-ghost use Rattle.workers.specs.Run.{RefusesEdges, WherePlain, job_fault};
+ghost use Rattle.workers.specs.Run.{AddsFront, AddsReport, IsFaultIn, IsRunFault};
+ghost use Rattle.workers.specs.Run.{IsRunRefusal, RefusesEdges, WherePlain, job_fault};
 
 use crate::ends::JobError;
 use crate::gate::{Gate, UnwatchedGate};
@@ -160,6 +160,8 @@ fn replicas_text<T: AllocGlobal + Threads + Sync>(
 // Writes a text.
 fn write_text<W: CountedWrite>(writer: &mut W, text: &Pages) -> Result<(), RunError>
     ensures done { OnOk result (Appends (W.contents writer.old) (W.contents writer.new) text.now) }
+    ensures front { OnErr result (
+        PutsFront (W.contents writer.old) (W.contents writer.new) text.now) }
     ensures kind { IfErr result (λ e. e ≡ RunError.Write) }
     ensures counted { OnOk result (W.failed_calls writer.new ≡ W.failed_calls writer.old) }
     ensures failed { OnErr result (
@@ -179,10 +181,11 @@ fn write_text<W: CountedWrite>(writer: &mut W, text: &Pages) -> Result<(), RunEr
 ///
 /// With a list of `counted` vertices only those are counted; the list is read after the edge list, and its lines are as
 /// there, one label in each. The report is built in memory and then written, so nothing is written unless the answer is
-/// Ok or `Write`. `Edges(Read)` is answered if a call of the reader failed (while failures can be counted) and at no
-/// other time, `Write` exactly if one of the writer did. What is said of the input holds for plain bytes: an LF after
-/// each CR. (That no failed call of the reader is made again is written so, and no clause says it.) Several threads ask
-/// for some MiB beyond a record that is refused, and answer `Edges(Read)` if that fails.
+/// Ok or `Write`, and after `Write` a beginning of it. `Edges(Read)` is answered if a call of the reader failed (while
+/// failures can be counted) and at no other time, `Write` exactly if one of the writer did. What is said of the input
+/// holds for plain bytes: an LF after each CR. (That no failed call of the reader is made again is written so, and no
+/// clause says it.) Several threads ask for some MiB beyond a record that is refused, and answer `Edges(Read)` if that
+/// fails.
 ///
 /// In this order: `Options`, before anything is read; `Edges`, `Counted` and `Plan`; if some partition has no node that
 /// reached the end `PartitionLost`, `BookFull`, `Memory` and `Starved`, the first that the nodes' ends give; then
@@ -191,10 +194,10 @@ fn write_text<W: CountedWrite>(writer: &mut W, text: &Pages) -> Result<(), RunEr
 /// or started anew.
 ///
 /// Memory is some two times 2^log2m bytes and 40 bytes of figures and weights a vertex and replica; if snapshots are
-/// kept, 2^log2m and 32 bytes more, and of each snapshot the accumulators if what is heard has raised a row; 4 bytes a
-/// vertex and an edge of the index that says whom an edge leads to; if there are several partitions, the rows that
-/// changed, in up to three tables, and in all of the run if a snapshot of each superstep is not kept; the graph and its
-/// parts; and the report.
+/// kept (by a lone node only if it is to start anew), 2^log2m and 32 bytes more, and of each snapshot the accumulators
+/// if what is heard has raised a row; 4 bytes a vertex and an edge of the index that says whom an edge leads to; if
+/// there are several partitions, the rows that changed, in up to three tables, and in all of the run if a snapshot of
+/// each superstep is not kept; the graph and its parts; and the report.
 ///
 /// For a library's user: the program calls [`run_watched`].
 pub fn run<T: AllocGlobal + Threads + Wait + Sync, R: CountedRead, W: CountedWrite, G: Gate + Sync>(
@@ -229,6 +232,9 @@ pub fn run<T: AllocGlobal + Threads + Wait + Sync, R: CountedRead, W: CountedWri
         (λ s input list. IsRunFault options.now s input list f) }
     ensures untouched { IfErr result (λ e. e ≢ RunError.Write →
         Keeps (W.contents writer.old) (W.contents writer.new)) }
+    ensures begun { result ≡ Err RunError.Write →
+        WherePlain options.now (R.remaining reader.old) counted.entry
+        (AddsFront W.contents writer.old writer.new) }
 {
     let gate = UnwatchedGate::new(gate);
     run_watched(rt, state, reader, counted, writer, options, &gate)
@@ -273,6 +279,9 @@ pub fn run_watched<
         (λ s input list. IsRunFault options.now s input list f) }
     ensures untouched { IfErr result (λ e. e ≢ RunError.Write →
         Keeps (W.contents writer.old) (W.contents writer.new)) }
+    ensures begun { result ≡ Err RunError.Write →
+        WherePlain options.now (R.remaining reader.old) counted.entry
+        (AddsFront W.contents writer.old writer.new) }
 {
     if !options.are_in_limits() {
         return Err(RunError::Options);

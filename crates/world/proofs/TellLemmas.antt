@@ -4,7 +4,7 @@ use Rattle.std.specs.Prelude.{Option, None, Some, Result, Ok, Err}
 use Rattle.std.specs.Io.KnownBytes.{Appends}
 use Rattle.std.proofs.KnownBytes.{Appends-trans}
 use Rattle.world.specs.declared.tell.TellError.{TellError}
-use Rattle.std.specs.List.{flat_map, range_with_len}
+use Rattle.std.specs.List.{flat_map, range_with_len, slice_get}
 use Rattle.std.proofs.Math.Seq.{drop-cons, take-suc}
 use Rattle.std.proofs.lemmas.Grind.{flat_map-append}
 use Rattle.std.proofs.lemmas.List.{map-append, take-append-drop}
@@ -31,9 +31,8 @@ use Rattle.ball_model.specs.World.{Node, World, after_event, answer_in, answer_o
 use Rattle.ball_model.specs.WorldText.{event_text, events_text, outcome_text, show_unless}
 use Rattle.ball_model.proofs.PartLemmas.{vertices_of-strided}
 use Rattle.ball_model.proofs.StreamLemmas.{written_both}
-use Rattle.edgelist.proofs.FeedLemmas.{vertex-within}
+use Rattle.graph.proofs.FeedLemmas.{vertex-within}
 use Rattle.replica.specs.Seen.{IsState}
-use Rattle.std.specs.List.{slice_get}
 use Rattle.ball_model.specs.Streams.{TextWritten}
 use Rattle.world.specs.Tell.{BeginsText, Stopped, Tells, is_shown}
 

@@ -3,20 +3,17 @@ use Rattle.std.specs.Prelude.{◌≡◌, ◌≢◌, ⊤, ℕ, false, List, Optio
 use Rattle.std.specs.Io.KnownBytes.{Appends, Keeps}
 use Rattle.ball_model.specs.declared.world.Event.{Event}
 use Rattle.ball_model.specs.Input.{IsPlain, Network}
-use Rattle.ball_model.specs.RunText.{ArePlain, AreRead, HasPlan, Numbers, network_in}
-use Rattle.ball_model.specs.RunText.{plan_asked, plan_over}
+use Rattle.ball_model.specs.RunText.{ArePlain, AreRead, HasPlan, Numbers, network_in, plan_asked, plan_over}
 use Rattle.ball_model.specs.Streams.{RisesByOne}
 use Rattle.ball_model.specs.World.{start_world}
-use Rattle.ball_model.specs.WorldText.{AreReplicas, HasCommands, IsReplayPlanFault, IsReplayText}
-use Rattle.ball_model.specs.WorldText.{IsReplayTextOf, IsScriptFault, ReplaySettings, job_over}
-use Rattle.ball_model.specs.WorldText.{script_of}
-use Rattle.edgelist.specs.Counting.{IsListRefusal}
+use Rattle.ball_model.specs.WorldText.{AreReplicas, HasCommands, IsReplayPlanFault, IsReplayText, IsReplayTextOf, IsScriptFault, ReplaySettings, job_over, script_of}
+use Rattle.graph.specs.Counting.{IsListRefusal}
 use Rattle.edgelist.specs.Job.{settings_of}
 use Rattle.edgelist.specs.Reading.{Refuses}
 use Rattle.edgelist.specs.declared.job.JobOptions.{JobOptions}
 use Rattle.edgelist.specs.declared.job.NetworkError.{NetworkError}
 use Rattle.edgelist.specs.declared.job.NetworkError.TheVariants as unread
-use Rattle.edgelist.specs.declared.read.EdgeError.TheVariants as edge_fault
+use Rattle.edgelist.specs.declared.limits.EdgeError.TheVariants as edge_fault
 use Rattle.world.specs.declared.replay.ReplayOptions.{ReplayOptions}
 use Rattle.world.specs.declared.replay.ReplayError.{ReplayError}
 use Rattle.world.specs.declared.replay.ReplayError.TheVariants as fault

@@ -56,11 +56,11 @@ const RUN_AFTER: &str = "Example:
   The input is always standard input: a file is handed over by the shell, with '<'.
 
 Memory and accuracy:
-  With --keep 0 and one partition a run takes at most about 2 * 2^log2m + 180 bytes a vertex and
-  9 bytes an edge, and while it reads 110 bytes a vertex and 11 bytes an edge. With snapshots, which
-  are the default, runs that were measured took 1.2 to 1.7 times as much. With several partitions
-  any --keep but 1 takes more memory, not less: the batches that they exchanged are dropped only if
-  each superstep is kept. The relative error of a large set is about 1.04 / sqrt(2^log2m): 26 % at 4,
+  One worker takes at most about 2 * 2^log2m + 180 bytes a vertex and 9 bytes an edge, and while it
+  reads 110 bytes a vertex and 11 bytes an edge. With snapshots, which it keeps only if it is to
+  restart, runs that were measured took 1.2 to 1.7 times as much. With several partitions any --keep
+  but 1 takes more memory, not less: the batches that they exchanged are dropped only if each
+  superstep is kept. The relative error of a large set is about 1.04 / sqrt(2^log2m): 26 % at 4,
   6.5 % at 8, 3.3 % at 10. A set of fewer than 2.5 * 2^log2m vertices is estimated too large, the
   more so the smaller it is, unless --estimate corrected is said: take it for figures that are to be
   near the true ones, and raw for those that HyperLogLog's formula gives.
@@ -103,7 +103,7 @@ const ENTRIES_HELP: &str =
     "Entries of the board, 2 to 16777216: about 2*P*P a superstep and replica; more if it is full [default: 1048576]";
 
 const KEEP_HELP: &str =
-    "Supersteps from one snapshot to the next, 0 to 4096; 0: none, less work if parts is 1 [default: 1]";
+    "Supersteps from one snapshot to the next, 0 to 4096; 0: none, nor has one worker with no --restart [default: 1]";
 
 const PATIENCE_HELP: &str =
     "Idle turns to wait for a silent worker: 17 minutes; a lost partition ends a run at once [default: 1000000]";

@@ -1,5 +1,5 @@
 //! Checkpoints of two edges, from a to b and from b to c, in two partitions: a and c are of the first, and b of the second.
-//! Counters have 16 registers under seed 0. `bench/vectors.py tests` prints this file, from the definitions and the formats
+//! Counters have 16 registers under seed 0. `tests/vectors.py tests` prints this file, from the definitions and the formats
 //! alone: nothing of it comes from the program.
 //!
 //! A checkpoint has a line for what is before the digest of the job, and two for that. Four follow for each vertex:

@@ -1,11 +1,17 @@
 //! How the nodes of a run mark who has ended too early.
 
 use super::*;
+use crate::assignment::NodeResult;
 use crate::running::Running;
+
+/// How a node ended too early.
+fn early() -> NodeResult {
+    Err(NodeError::Memory)
+}
 
 /// Whether each of two partitions may still tell something.
 fn may_tell(running: &Running) -> (bool, bool) {
-    (running.gone(0).is_none(), running.gone(1).is_none())
+    (running.may_come(0).is_ok(), running.may_come(1).is_ok())
 }
 
 /// A node of the second partition.
@@ -16,10 +22,10 @@ fn second(replica: u8) -> NodeId {
 /// Whether of two replicas each counts once, however often it is said to have ended, and for its own partition alone.
 fn count_once(running: &Running) -> bool {
     let none = may_tell(running);
-    running.end(second(0));
-    running.end(second(0));
+    running.end(second(0), &early());
+    running.end(second(0), &early());
     let one = may_tell(running);
-    running.end(second(1));
+    running.end(second(1), &early());
     let two = may_tell(running);
     none == (true, true) && one == (true, true) && two == (true, false)
 }

@@ -7,7 +7,7 @@ ghost use Rattle.std.specs.Arc.{arc_value};
 ghost use Rattle.ball_model.specs.Batches.{true_batch};
 ghost use Rattle.ball_model.specs.Caller.{CalledNothing, Extends, IsCaller, IsFull};
 ghost use Rattle.ball_model.specs.Held.{held_after};
-ghost use Rattle.ball_model.specs.History.{holding_in};
+ghost use Rattle.ball_model.specs.History.{entries_of, holding_in};
 ghost use Rattle.ball_model.specs.Join.{Holding};
 ghost use Rattle.ball_model.specs.Steps.{Close};
 ghost use Rattle.workers.specs.declared.worker.node_run.NodeError.TheVariants.{BookFull};
@@ -258,11 +258,15 @@ impl<'a, R: AllocGlobal + Threads + Wait + Sync, G: Gate + Watch> Worker<'a, R, 
     }
 
     // Idle turns, until the history is no longer of that length, or nothing can come from the source any more, or there
-    // were so many of them; and whether it is. (Who ends has posted before: so the length is looked at once more.)
+    // were so many of them; and whether it has grown, by a last look. (Who ends has posted before: so the length is looked
+    // at once more.)
     fn has_grown<E: Exchange>(&self, exchange: &mut E, source: u16, before: u64) -> bool
         requires caller { IsCaller (E.caller exchange.old) }
         ensures seen { Extends (E.caller exchange.old) (E.caller exchange.new) }
         ensures nothing { CalledNothing (E.caller exchange.old) (E.caller exchange.new) }
+        ensures grown { result ≡ true → entries_of (E.caller exchange.new).seen ≢ before }
+        ensures same { result ≡ false → 0 < self.now.orders.patience →
+            entries_of (E.caller exchange.new).seen ≡ before }
     {
         for _ in 0..self.orders.patience {
             let may_come = self.gate.wait_for(self.node, source);

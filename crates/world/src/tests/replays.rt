@@ -1,5 +1,5 @@
 //! Scripts and their answers, byte for byte, for refused memory and writers that fail, and the texts of errors. Counters
-//! have 16 registers under seed 0. (The cases of `examples/check` have more scripts, and what a replay refuses.)
+//! have 16 registers under seed 0. (The cases of `tests/check` have more scripts, and what a replay refuses.)
 
 use crate::replay::{ReplayError, ReplayOptions, replay};
 use ball_model::{Estimate, MemWriter, PlanError};

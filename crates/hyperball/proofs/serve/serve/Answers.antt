@@ -63,20 +63,26 @@ returns-in-Err-answer-clause-one g c = λ one.
     wish_leaves _ c.in-Ok.wish r w c.in-Ok.ensures.found.asks (fails_wish c.in-Ok.wish r w c.in-Err-answer.fault c.in-Err-answer.ensures.fault)
 
 pub returns-in-Err-clause-asked : goal.returns-in-Err-clause-asked
-returns-in-Err-clause-asked g c = λ a is. record {
-  done = λ zero. absurd (accepted_undone _ _ (c.tell_words.ensures.accepted (c.in-Err.ensures.faults _ is.accepted)) zero);
-  fault = λ one. inl (record { unread = refl; kept = c.tell_words.ensures.left.fault one });
-  few = λ all. none_read _ _;
-}
+returns-in-Err-clause-asked g c = λ a is.
+    let kept = c.tell_words.ensures.unwritten (c.in-Err.ensures.faults _ is.accepted) in
+    record {
+      done = λ zero. absurd (accepted_undone _ _ (c.tell_words.ensures.accepted (c.in-Err.ensures.faults _ is.accepted)) zero);
+      fault = λ one. inl (record { unread = refl; reads = refl; unwritten = kept.contents; writes = kept.failed });
+      few = λ all. none_read _ _;
+    }
 
 pub returns-in-Err-clause-refused : goal.returns-in-Err-clause-refused
 returns-in-Err-clause-refused g c = λ kinds has. c.tell_words.ensures.refused kinds (c.in-Err.ensures.faults kinds has)
+
+pub returns-in-Err-clause-unread : goal.returns-in-Err-clause-unread
+returns-in-Err-clause-unread g c = λ kinds has some. record { bytes = refl; failed = refl }
 
 pub returns-in-Err-clause-one : goal.returns-in-Err-clause-one
 returns-in-Err-clause-one g c = λ one. inl (c.tell_words.ensures.left.fault one)
 
 pub returns-in-Err-clause-two : goal.returns-in-Err-clause-two
 returns-in-Err-clause-two g c = λ two. record {
+  unread = record { bytes = refl; failed = refl };
   kept = c.tell_words.ensures.left.mistake two;
   orders = λ has. (c.in-Err.ensures.lists _ (ap Err (accepted_mistake _ _ (c.tell_words.ensures.accepted (c.in-Err.ensures.faults _ has)) two))).0;
   misspelt = λ has. (c.in-Err.ensures.lists _ (ap Err (accepted_mistake _ _ (c.tell_words.ensures.accepted (c.in-Err.ensures.faults _ has)) two))).1;

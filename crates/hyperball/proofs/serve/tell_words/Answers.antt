@@ -1,7 +1,8 @@
-use Rattle.std.proofs.Common.{◌≡◌, inl, inr, List, [], ◌∷◌, subst, sym}
+use Rattle.std.proofs.Common.{◌≡◌, ◌≢◌, ◌⊎◌, inl, inr, List, [], ◌∷◌, subst, sym}
 use Rattle.std.specs.List.{AllByRecursion}
 use Rattle.clap.specs.Words.{IsAmong, kind_of}
 use Rattle.clap.specs.declared.error.kind.ErrorKind.{ErrorKind}
+use Rattle.clap.specs.declared.error.kind.ErrorKind.TheVariants as kind
 use Rattle.hyperball.specs.Words.{FailsFor, IsMistake}
 use Rattle.hyperball.specs.declared.cli.WordsError.TheVariants as words_error
 use Rattle.hyperball.proofs.serve.tell_words.Goals as goal
@@ -16,6 +17,11 @@ among k (x ∷ xs) (inr h) all = among k xs h all.1
 alone : (k x : ErrorKind) → IsAmong k (x ∷ []) → k ≡ x
 alone k x (inl e) = e
 alone k x (inr h) = absurd h
+
+-- lack of memory, or one of some mistakes, is no wish for help
+no_help : (kinds : List ErrorKind) (k : ErrorKind) → AllByRecursion IsMistake kinds → (k ≡ kind.OutOfMemory) ⊎ IsAmong k kinds → (k ≢ kind.DisplayHelp) × (k ≢ kind.DisplayVersion)
+no_help kinds k all (inl e) = (λ is. absurd (cc), λ is. absurd (cc))
+no_help kinds k all (inr h) = (among k kinds h all).1
 
 pub returns-in-Clap-clause-refused : goal.returns-in-Clap-clause-refused
 returns-in-Clap-clause-refused g c = λ kinds fails. record {
@@ -32,4 +38,12 @@ returns-in-Clap-clause-refused g c = λ kinds fails. record {
     | inr h ↦ c.tell_clap.ensures.status.version (alone _ _ h)
   ];
   some = λ some zero. c.tell_clap.ensures.left.some zero;
+  unwritten = λ mistakes.
+      let other = no_help kinds (kind_of c.in-Clap.error) mistakes.1 (subst (FailsFor kinds) c.in-Clap.is fails) in
+      c.tell_clap.ensures.unwritten other.0 other.1;
 }
+
+pub returns-in-Clap-clause-unwritten : goal.returns-in-Clap-clause-unwritten
+returns-in-Clap-clause-unwritten g c = λ fails.
+    let other = no_help [] (kind_of c.in-Clap.error) tt (subst (FailsFor []) c.in-Clap.is fails) in
+    c.tell_clap.ensures.unwritten other.0 other.1

@@ -2,7 +2,7 @@ use Rattle.std.proofs.Common.{◌≡◌, []}
 use Rattle.std.specs.Io.KnownBytes.{prepend_known}
 use Rattle.ball_model.specs.Input.{Limits}
 use Rattle.edgelist.specs.Given.{IsGivenUnder}
-use Rattle.edgelist.specs.declared.read.Delimiter.{Delimiter}
+use Rattle.graph.specs.declared.delimiter.Delimiter.{Delimiter}
 use Rattle.node.proofs.JobLemmas.{GivesSoFar}
 use Rattle.node.proofs.job.give_section.Given as goal
 

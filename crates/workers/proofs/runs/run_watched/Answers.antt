@@ -5,10 +5,10 @@ use Rattle.ball_model.specs.PlanValue.{PlanValue}
 use Rattle.ball_model.specs.RunText.{HasPlan, IsReport, plan_asked}
 use Rattle.ball_model.specs.declared.plan.PlanError.{PlanError}
 use Rattle.edgelist.specs.Job.{numbers_asked, settings_of}
-use Rattle.edgelist.specs.Planning.{signed}
+use Rattle.graph.specs.Planning.{signed}
 use Rattle.edgelist.specs.declared.job.JobOptions.{JobOptions}
 use Rattle.edgelist.specs.declared.job.NetworkError.{NetworkError}
-use Rattle.edgelist.specs.declared.read.EdgeError.TheVariants as edge
+use Rattle.edgelist.specs.declared.limits.EdgeError.TheVariants as edge
 use Rattle.workers.specs.declared.ends.JobError.{JobError}
 use Rattle.workers.specs.declared.runs.RunError.{RunError}
 use Rattle.workers.specs.declared.runs.RunError.TheVariants as fault
@@ -16,7 +16,7 @@ use Rattle.workers.specs.Job.{IsFaultOf}
 use Rattle.workers.specs.Options.{run_job}
 use Rattle.workers.specs.Run.{IsRunRefusal, WherePlain, job_fault, network_fault}
 use Rattle.workers.proofs.PathLemmas.{ok_is_no_err}
-use Rattle.workers.proofs.RunLemmas.{EndsUnwritten, IsRead, TellsNone, edges_back, edges_told, ends_unwritten, listed_edges, none_done, none_held, none_planned, plan_job, planned, read_by, report_planned, reported, unread_by, unread_edges, unwritten, unwritten_edges, where_always, wrote}
+use Rattle.workers.proofs.RunLemmas.{EndsUnwritten, IsRead, TellsNone, edges_back, edges_told, ends_unwritten, listed_edges, none_done, none_held, none_planned, plan_job, planned, read_by, report_planned, reported, unread_by, unread_edges, unwritten, unwritten_edges, where_always, wrote, wrote_front}
 use Rattle.workers.proofs.runs.run_watched.Given.{Over}
 use Rattle.workers.proofs.runs.run_watched.Goals.{In_ok-bare, In_ok-read, In_ok-text}
 use Rattle.workers.proofs.runs.run_watched.Goals as goal
@@ -106,6 +106,12 @@ returns-clause-ok g c =
     let at = goal.at.returns-clause-ok g c in
     let report = told_text g at.In_ok-text (network_read g at.In_ok-read) (plan_made g at.In_ok-bare) in
     wrote c.args.options.now (g.R.Read.remaining c.args.reader.now) c.args.counted g.W.Write.contents c.args.writer.now c.write_text.new.writer c.in_ok-text.text c.write_text.result report c.write_text.ensures.done
+
+pub returns-clause-begun : goal.returns-clause-begun
+returns-clause-begun g c =
+    let at = goal.at.returns-clause-begun g c in
+    let report = told_text g at.In_ok-text (network_read g at.In_ok-read) (plan_made g at.In_ok-bare) in
+    wrote_front c.args.options.now (g.R.Read.remaining c.args.reader.now) c.args.counted g.W.Write.contents c.args.writer.now c.write_text.new.writer c.in_ok-text.text c.write_text.result report c.write_text.ensures.front
 
 pub returns-clause-edges : goal.returns-clause-edges
 returns-clause-edges g c =

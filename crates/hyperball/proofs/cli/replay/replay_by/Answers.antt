@@ -54,4 +54,4 @@ returns-clause-done g c =
       commands = c.in_ok-replay_watched.ensures.commands;
       some = c.in_ok-replay_watched.ensures.some;
       appended = c.in_ok-replay_watched.ensures.ok;
-    })
+    }) c.in_ok-replay_watched.ensures.counted

@@ -1,15 +1,11 @@
-use Rattle.std.proofs.Common.{◌≡◌, ap}
-use Rattle.std.specs.Prelude.{Err, IfErr, OnOk, Result}
+use Rattle.std.proofs.Common.{ap}
+use Rattle.std.specs.Prelude.{Err, IfErr, OnOk}
 use Rattle.std.proofs.lemmas.Result.{IfErr-at_err}
-use Rattle.workers.specs.declared.runs.RunError.{RunError}
 use Rattle.hyperball.specs.Refusals.{DoesJob, FailsJob}
 use Rattle.hyperball.specs.Streams.{Reads, Writes, reads_of, writes_of}
-use Rattle.hyperball.proofs.RefusalLemmas.{reports_unlisted, unlisted_fails}
+use Rattle.hyperball.proofs.RefusalLemmas.{reports_unlisted, same_error, unlisted_fails}
 use Rattle.hyperball.proofs.cli.run.run_by.Goals as goal
 use Rattle.hyperball.proofs.cli.run.run_by.Goals.{then-words, else-words+in-Ok-run_watched, else-words+in-Err}
-
-same_error : (x y : RunError) → ◌≡◌ {A = Result (Unit {0}) RunError} (Err x) (Err y) → x ≡ y
-same_error x y is = cc
 
 pub returns-in-Ok-answer-clause-done : goal.returns-in-Ok-answer-clause-done
 returns-in-Ok-answer-clause-done g c =
@@ -19,7 +15,7 @@ returns-in-Ok-answer-clause-done g c =
       | then-words k ↦ rw (k.answer-is, k.reader-is, k.writer-is, k.if-words.true) k.run_listed-answer.ensures.done
       | else-words+in-Ok-run_watched k ↦
           rw (k.answer-is, k.reader-is, k.writer-is) (reports_unlisted c.args.words.options c.args.words.counted _ _ k.if-words.false k.in-Ok-run_watched.ensures.ok
-          (λ one. let bad = k.in-Ok-run_watched.ensures.failed one in absurd (cc)))
+          (λ one. let bad = k.in-Ok-run_watched.ensures.failed one in absurd (cc)) (k.in-Ok-run_watched.ensures.written (λ is. absurd (cc))))
       | else-words+in-Err k ↦ rw k.answer-is tt
     ] in
     rw c.in-Ok-answer.is at done
@@ -35,6 +31,7 @@ returns-clause-fault g c =
           rw (k.answer-is, k.reader-is, k.writer-is) (unlisted_fails c.args.words.options c.args.words.counted _ _ k.in-Err.fault k.if-words.false k.in-Err.ensures.fault
           k.in-Err.ensures.of_edges k.in-Err.ensures.refused
           (λ is. k.in-Err.ensures.read (ap Err is)) (λ one. same_error _ _ (k.in-Err.ensures.failed one))
-          k.in-Err.ensures.untouched (λ is. k.in-Err.ensures.write (ap Err is)))
+          k.in-Err.ensures.untouched (λ is. k.in-Err.ensures.write (ap Err is))
+          (λ other. k.in-Err.ensures.written (λ is. other (same_error _ _ is))) (λ is. k.in-Err.ensures.begun (ap Err is)))
     ] in
     IfErr-at_err (FailsJob c.args.words.options c.args.words.counted r w) c.in-Err-answer.is fails

@@ -10,14 +10,14 @@ loop-p-preserved g c =
     let o = c.args.self.now.options in
     let p : ℕ = c.loop-p.p in (
       c.start_part.ensures.seat,
-      subst (StartingAll (λ h. h.promise) (λ own. own.items) j o (p + 1)) (sym c.in_ok-push.ensures.items) (starting_all_more (λ h. h.promise) (λ own. own.items) j o p c.loop-p.children.items c.in_ok-own.own c.loop-p.invariant.1 c.in_ok-own.ensures.started),
+      subst (StartingAll (λ h. h.promise) (λ own. own.items) j o (p + 1)) (sym c.in-Ok-push.ensures.items) (starting_all_more (λ h. h.promise) (λ own. own.items) j o p c.loop-p.children.items c.in-Ok-start_part.own c.loop-p.invariant.1 c.in-Ok-start_part.ensures.started),
       ap (set c.loop-p.parts c.from-in-loop-p.result) c.start_part.ensures.part ∙ set-get_or c.loop-p.parts c.from-in-loop-p.result c.index-parts-from.result ∙ c.loop-p.invariant.2,
     )
 
 pub loop-p-init : goal.loop-p-init
 loop-p-init g c =
     let j = c.args.self.now.job in
-    (c.requires.seat, subst (StartingAll (λ h. h.promise) (λ own. own.items) j c.args.self.now.options 0) (sym c.in_ok-children.ensures.items) (record { count = refl; each = tt }), refl)
+    (c.requires.seat, subst (StartingAll (λ h. h.promise) (λ own. own.items) j c.args.self.now.options 0) (sym c.in-Ok.ensures.items) (record { count = refl; each = tt }), refl)
 
 pub start_part-requires-clause-part : goal.start_part-requires-clause-part
 start_part-requires-clause-part g c κs within =

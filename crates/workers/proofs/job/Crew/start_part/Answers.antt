@@ -1,7 +1,7 @@
 use Rattle.std.proofs.Common.{◌≡◌, ◌∙◌, ◌+◌, ◌*◌, ℕ, arith, subst, sym}
 use Rattle.ball_model.specs.declared.plan.TheConstants.{MOST_REPLICAS}
-use Rattle.workers.specs.Job.{HasSplit}
-use Rattle.workers.proofs.JobLemmas.{Starting, split_more, starting_more}
+use Rattle.workers.specs.Job.{HasSplit, IsAssigned}
+use Rattle.workers.proofs.JobLemmas.{Starting, split_more, started_some, starting_more}
 use Rattle.workers.proofs.job.Crew.start_part.Goals as goal
 
 pub loop-replica-preserved : goal.loop-replica-preserved
@@ -15,7 +15,7 @@ loop-replica-preserved g c =
     let split = split_more b j (MOST_REPLICAS * p + k) _ _ i.0 c.split-seat.ensures.kept c.split-seat.ensures.left in
     let next : MOST_REPLICAS * p + k + 1 ≡ MOST_REPLICAS * p + (k + 1) = omega arith in (
       subst (λ (n : ℕ). HasSplit b j n c.split-seat.new.self) next split,
-      subst (Starting (λ h. h.promise) j o p (k + 1)) (sym c.in_ok-push.ensures.items) (starting_more (λ h. h.promise) j o p k c.loop-replica.children.items c.start_node.result i.1 c.start_node.ensures),
+      subst (Starting (λ h. h.promise) j o p (k + 1)) (sym c.in_ok-push.ensures.items) (starting_more (λ h. h.promise) j o p k c.loop-replica.children.items c.ok-child.result i.1 (started_some (λ h. IsAssigned j o p k h.promise) c.start_node.result c.ok-child.result c.ok-child.ensures.value c.start_node.ensures.started)),
       c.in_ok-part.ensures.same ∙ i.2,
     )
 

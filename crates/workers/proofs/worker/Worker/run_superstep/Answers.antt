@@ -8,7 +8,7 @@ use Rattle.workers.specs.Node.{HasToldAll}
 use Rattle.workers.specs.Superstep.{HasStarved, IsFound, StandsIn}
 use Rattle.ball_model.proofs.CheckLemmas.{on_err}
 use Rattle.workers.proofs.PathLemmas.{err_not_as, gone, left_by, left_then, ok_is_no_err, path_close, path_then}
-use Rattle.workers.proofs.SeenLemmas.{caller_of, extends_trans, kept_by_call, kept_later, told_between, waiting_before}
+use Rattle.workers.proofs.SeenLemmas.{caller_of, extends_trans, first_by_call, first_later, kept_by_call, kept_later, told_between, waiting_before}
 use Rattle.ball_model.specs.History.{holding_in}
 use Rattle.workers.specs.Tie.{KeptIfTold}
 use Rattle.workers.proofs.SuperstepLemmas.{at_level, closed_end, stands_back, stands_later}
@@ -121,6 +121,7 @@ returns-in-Level g c =
           | inr over ↦ ap (λ (x : State). x.superstep) (c.close.ensures.over over).0 ∙ (found.1 ∙ same)
         ];
         kept = kept;
+        kept_first = first_later keep c.args.replica.now.superstep v _ w (first_by_call keep v _ (holding_in c.args.replica.now) c.in_ok-keep_snapshot.ensures.kept) (extends_trans _ _ w (extends_trans _ _ _ c.tell_all.ensures.seen c.drop_old.ensures.seen) c.hear_all.ensures.seen);
         came = path_close keep v w p _ (holding_in r) _ level (subst (λ (n : ℕ). KeptIfTold keep v n w) (sym (found.1 ∙ same)) kept) (sym (c.close.ensures.held v.seen.job p r.superstep stands));
       };
       gone = tt;
@@ -145,6 +146,7 @@ returns-in-Further g c =
         is = tt;
         stays = λ other. absurd (other refl);
         kept = kept_later keep c.args.replica.now.superstep v _ _ (kept_by_call keep v _ (holding_in c.args.replica.now) c.in_ok-keep_snapshot.ensures.kept) (extends_trans _ _ _ (extends_trans _ _ _ c.tell_all.ensures.seen c.drop_old.ensures.seen) c.hear_all.ensures.seen);
+        kept_first = first_later keep c.args.replica.now.superstep v _ _ (first_by_call keep v _ (holding_in c.args.replica.now) c.in_ok-keep_snapshot.ensures.kept) (extends_trans _ _ _ (extends_trans _ _ _ c.tell_all.ensures.seen c.drop_old.ensures.seen) c.hear_all.ensures.seen);
         came = path_then _ _ _ _ _ _ _ _ now dropped (c.in_ok-hear_all.ensures.came c.args.self.now.orders.keep);
       };
       gone = tt;
@@ -177,6 +179,7 @@ returns-in-Missed g c =
         is = subst (λ (n : ℕ). HasStarved v n q p w) (sym found.1) (told_all, waiting_before v _ w s q p now found.0);
         stays = λ _. found.1 ∙ ap (λ (x : State). x.superstep) c.keep_snapshot.ensures.same;
         kept = kept_later keep c.args.replica.now.superstep v _ w (kept_by_call keep v _ (holding_in c.args.replica.now) c.in_ok-keep_snapshot.ensures.kept) (extends_trans _ _ w (extends_trans _ _ _ c.tell_all.ensures.seen c.drop_old.ensures.seen) c.hear_all.ensures.seen);
+        kept_first = first_later keep c.args.replica.now.superstep v _ w (first_by_call keep v _ (holding_in c.args.replica.now) c.in_ok-keep_snapshot.ensures.kept) (extends_trans _ _ w (extends_trans _ _ _ c.tell_all.ensures.seen c.drop_old.ensures.seen) c.hear_all.ensures.seen);
         came = path_then _ _ _ _ _ _ _ _ now dropped (c.in_ok-hear_all.ensures.came c.args.self.now.orders.keep);
       };
       gone = tt;
