@@ -7,10 +7,11 @@ Usage: bench/accuracy.py        prints tables that docs/ACCURACY.md has rows of 
 Four graphs, log2m 4 to 10, 20 seeds each, both estimates. The relative error of a figure is |estimate - exact| / exact, on
 average over the seeds; of a figure of vertices it is also the average over all vertices where the exact one is above 0. The
 last columns tell how many of the program's ten greatest are among the exact ten greatest (a vertex that is as great as the
-tenth counts), on average over the seeds. Exact figures are those of balls as sets. HYPERBALL names another program.
+tenth counts), on average over the seeds. Exact figures are by a search from each vertex. HYPERBALL names another program.
 `time` wants igraph (on Debian: apt-get install python3-igraph).
 """
 import csv
+import itertools
 import os
 import random
 import subprocess
@@ -21,6 +22,7 @@ import time
 HERE = os.path.dirname(os.path.abspath(__file__))
 PROGRAM = os.environ.get("HYPERBALL", os.path.join(HERE, "..", "hyperball"))
 SEEDS = 20
+SEARCHES = 4096
 
 
 def generated(kind, records, seed):
@@ -52,32 +54,35 @@ def listed(name):
 
 
 def exact(records):
-    """The neighbourhood function, and of each label the four figures."""
+    """The neighbourhood function, and of each label the four figures: by searches from many vertices at once, as bits."""
     labels = list(dict.fromkeys(label for record in records for label in record))
     number = {label: i for i, label in enumerate(labels)}
-    preds = [set() for _ in labels]
+    targets = [set() for _ in labels]
     for record in records:
         if len(record) == 2:
-            preds[number[record[1]]].add(number[record[0]])
-    balls = [1 << v for v in range(len(labels))]
-    sizes = [[1] * len(labels)]
-    while True:
-        after = []
-        for ball, sources in zip(balls, preds):
-            for source in sources:
-                ball |= balls[source]
-            after.append(ball)
-        if after == balls:
-            break
-        balls = after
-        sizes.append([bin(ball).count("1") for ball in balls])
-    figures = {}
-    for v, label in enumerate(labels):
-        gains = [(t, sizes[t][v] - sizes[t - 1][v]) for t in range(1, len(sizes))]
-        reach, distance = sizes[-1][v], sum(t * gain for t, gain in gains)
-        harmonic = sum(gain / t for t, gain in gains)
-        figures[label] = (reach, harmonic, 1 / distance if distance else 0, reach * reach / distance if distance else 1)
-    return [sum(row) for row in sizes], figures
+            targets[number[record[0]]].add(number[record[1]])
+    news, reach = [len(labels)], [1] * len(labels)
+    harmonic, distance = [0.0] * len(labels), [0] * len(labels)
+    for first in range(0, len(labels), SEARCHES):
+        last = {v: 1 << v - first for v in range(first, min(first + SEARCHES, len(labels)))}
+        balls, t = dict(last), 0
+        while last:
+            t, came = t + 1, {}
+            for source, bits in last.items():
+                for target in targets[source]:
+                    came[target] = came.get(target, 0) | bits
+            last = {}
+            for v, bits in came.items():
+                known = balls.get(v, 0)
+                if bits & ~known:
+                    last[v], balls[v] = bits & ~known, bits | known
+            news += [0] * (t + 1 - len(news))
+            for v, bits in last.items():
+                gain = bin(bits).count("1")
+                news[t], reach[v] = news[t] + gain, reach[v] + gain
+                harmonic[v], distance[v] = harmonic[v] + gain / t, distance[v] + gain * t
+    figures = {label: (n, h, 1 / d if d else 0, n * n / d if d else 1) for label, n, h, d in zip(labels, reach, harmonic, distance)}
+    return list(itertools.accumulate(news if len(news) < 2 or news[-1] else news[:-1])), figures
 
 
 def estimated(path, words):

@@ -73,7 +73,7 @@ def threads_of(command):
 def own_ways(build, front):
     """The ways to run a build of this program."""
     command = [build, "run"]
-    for name, keep in [("`--keep 0`", ["--keep", "0"]), ("snapshots", [])]:
+    for name, keep in [("`--keep 0`", ["--keep", "0"]), ("snapshots", ["--restart", "0.0@4096"])]:
         for called, threads in threads_of(command):
             title = ", ".join(it for it in (front, name, called) if it)
             yield Way(title, [*command, "--progress", *keep, *threads])

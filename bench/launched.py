@@ -18,16 +18,12 @@ def program():
 
 
 def environment(one_heap=False):
-    """The environment, with what the launcher exports where it is not set already. One heap for all threads is what it asks
-    for if a run has one partition of one replica."""
-    with open(LAUNCHER, encoding="utf-8") as launcher:
-        text = launcher.read()
-    values = dict(re.findall(r"^(\w+)=(\S+)$", text, re.MULTILINE))
-    for name, more in re.findall(r"^ +(\w+)=\$\1(\S+)$", text, re.MULTILINE) if one_heap else []:
-        values[name] += more
+    """The environment, with what the launcher sets where it is not set already (hyperball.env). One heap for all threads is
+    what it asks for if a run has one partition of one replica."""
     usual = {}
-    for name, value in re.findall(r'^export (\w+)="\$\{\1:-([^}]*)\}"$', text, re.MULTILINE):
-        usual[name] = values[value[1:]] if value.startswith("$") else value
-    if not usual:
-        raise SystemExit("bench: ./hyperball exports nothing that could be read")
+    with open(os.path.join(TOP, "hyperball.env"), encoding="utf-8") as lines:
+        for line in lines:
+            found = re.fullmatch(r"(alone )?(\w+)=(.*)\n", line)
+            if found and (one_heap or not found[1]):
+                usual.setdefault(found[2], found[3])
     return {**usual, **os.environ}

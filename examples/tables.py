@@ -17,15 +17,18 @@ vertices count. Of a run with --counted a report does not say which do, and then
 import os
 import signal
 import sys
+import warnings
 
 sys.path.insert(0, os.path.join(os.path.dirname(os.path.abspath(__file__)), "..", "python"))
 from hyperball import FIGURES, Report  # noqa: E402 (the package of this tree comes first)
 
 
 def read(path):
-    """The report. Where it is none, or cannot be read, this is told, and all ends."""
+    """The report, with labels as texts. Where it is none, or cannot be read, this is told, and all ends."""
     try:
-        return Report.read(path)
+        report = Report.read(path)
+        report.vertices.label = list(map(str, report.vertices.label))
+        return report
     except OSError as error:
         sys.exit(f"tables.py: {path}: {error.strerror}")
     except ValueError:
@@ -93,6 +96,7 @@ def print_summary(report):
 
 def main(words):
     signal.signal(signal.SIGPIPE, signal.SIG_DFL)  # where the summary goes to head, it ends in silence
+    warnings.showwarning = lambda warning, *_: print(f"tables.py: {warning}", file=sys.stderr)
     if len(words) not in (1, 2) or words[0] in ("-h", "--help"):
         sys.exit(__doc__.strip())
     report = read(words[0])

@@ -1,8 +1,8 @@
 #!/usr/bin/env python3
 """Writes the batches and checkpoints that cases and tests bring to nodes and gatherings, and want of them.
 
-Usage: vectors.py > examples/cases/vectors.txt
-       vectors.py tests > crates/node/src/tests/vectors.rt, and the same of crate hyperball
+Usage: tests/vectors.py > tests/cases/vectors.txt
+       tests/vectors.py tests > crates/node/src/tests/vectors.rt, and the same of crate hyperball
 
 All is made from docs/DEFINITIONS.md (balls, hashes, counters, figures) and docs/FORMATS.md (the bytes) by the standard
 library alone, and nothing of it by the program: where a node answers the same bytes, two programs agree. The job has
@@ -242,7 +242,7 @@ def constant(name, about, groups):
 HEAD = """\
 # Batches and checkpoints of two edges, from a to b and from b to c, in two partitions: a and c are of the first, and b of
 # the second; and checkpoints of the same edges in one partition. Counters have 16 registers under seed 0.
-# bench/vectors.py prints this file, from the definitions and the formats alone: nothing of it comes from the program.
+# tests/vectors.py prints this file, from the definitions and the formats alone: nothing of it comes from the program.
 #
 # A batch has a line for what is before the digest of the job, two for that, one for how many vertices changed and how
 # many rows there are, and one for each row: its vertex and its registers.
@@ -256,7 +256,7 @@ HEAD = """\
 
 TESTS_HEAD = """\
 //! Checkpoints of two edges, from a to b and from b to c, in two partitions: a and c are of the first, and b of the second.
-//! Counters have 16 registers under seed 0. `bench/vectors.py tests` prints this file, from the definitions and the formats
+//! Counters have 16 registers under seed 0. `tests/vectors.py tests` prints this file, from the definitions and the formats
 //! alone: nothing of it comes from the program.
 //!
 //! A checkpoint has a line for what is before the digest of the job, and two for that. Four follow for each vertex:

@@ -1,7 +1,7 @@
 #!/usr/bin/env python3
 """Runs the tests that read random bytes over more of them: what the program gets no bytes for from outside.
 
-Usage: bench/loops.py [ROUNDS [SEED [NAME ..]]]   (100000 rounds, seed 1, all that are listed below)
+Usage: tests/loops.py [ROUNDS [SEED [NAME ..]]]   (100000 rounds, seed 1, all that are listed below)
 
 Each test has a loop of a thousand rounds with a fixed seed. Here a copy of its crate gets more rounds and another seed,
 and is run without a proof, with checks in its place (rt try). Prints a line for each; the status is 1 where one failed.

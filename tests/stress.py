@@ -1,7 +1,7 @@
 #!/usr/bin/env python3
 """Runs of many workers by the built program: whatever the schedule, the report of one worker, or the one right fault.
 
-Usage: bench/stress.py [RUNS [SEED]]   (200 runs, seed 0)
+Usage: tests/stress.py [RUNS [SEED]]   (200 runs, seed 0)
 
 Each run has a small random graph, random numbers of partitions and replicas (up to twelve workers), snapshots as they
 come, and random workers that are lost or start anew. Four runs go at once, so that schedules differ. Where the orders
@@ -16,10 +16,8 @@ import sys
 import time
 from concurrent.futures import ThreadPoolExecutor
 
-from launched import program
+from tried import PROGRAM
 
-HERE = os.path.dirname(os.path.abspath(__file__))
-PROGRAM = os.environ.get("HYPERBALL") or program()
 
 
 def ran(words, edges):
@@ -72,8 +70,6 @@ def try_one(number, seed):
 def main():
     runs = int(sys.argv[1]) if len(sys.argv) > 1 else 200
     seed = int(sys.argv[2]) if len(sys.argv) > 2 else 0
-    if not os.path.exists(PROGRAM):
-        sys.exit("first build the program: ./hyperball run --help")
     started = time.monotonic()
     with ThreadPoolExecutor(4) as pool:
         all_ = list(pool.map(lambda number: try_one(number, seed), range(runs)))

@@ -1,9 +1,9 @@
 #!/usr/bin/env python3
 """Makes trouble for the built program: damaged inputs, refused memory, streams that fail, workers that are lost.
 
-Usage: bench/hostile.py [INPUTS [SECONDS [SEED]]]   (1000 inputs of each kind, for at most 600 seconds each, seed 0)
-       bench/hostile.py refused   (refused memory, failing streams and lost workers alone, as the gate has it)
-       bench/hostile.py program   (the same without large runs, and without the tests of refused calls, which only the gate builds)
+Usage: tests/hostile.py [INPUTS [SECONDS [SEED]]]   (1000 inputs of each kind, for at most 600 seconds each, seed 0)
+       tests/hostile.py refused   (refused memory, failing streams and lost workers alone, as the gate has it)
+       tests/hostile.py program   (the same without large runs, and without the tests of refused calls, which only the gate builds)
 
 Inputs are random bytes, right ones with a few bytes changed, and scripts of random commands; a kind's inputs depend on
 its name and the seed alone. Each run is a process of its own. It has to end by itself, with status 0 and nothing told,
@@ -23,10 +23,9 @@ import tempfile
 import time
 from concurrent.futures import ThreadPoolExecutor
 
-from launched import program
+from tried import PROGRAM
 
 HERE = os.path.dirname(os.path.abspath(__file__))
-PROGRAM = os.environ.get("HYPERBALL") or program()
 RUN = ["run", "--log2m", "4"]
 EDGES = b"a\tb\nb\tc\n"
 REPORT = open(os.path.join(HERE, "..", "examples", "two-edges.csv"), "rb").read()
