@@ -11,6 +11,7 @@ import tarfile
 import zipfile
 
 HERE = pathlib.Path(__file__).resolve().parent
+TEXT = re.compile(r'^([\w-]+) = "(.*)"$', re.M)
 PROGRAM = HERE.parent / "release" / "hyperball-x86_64-linux"
 
 
@@ -38,8 +39,20 @@ def build_sdist(sdist_directory, config_settings=None):
 
 
 def project():
-    """The texts of pyproject.toml's last table."""
-    return dict(re.findall(r'^([\w-]+) = "(.*)"$', (HERE / "pyproject.toml").read_text().split("[project]")[1], re.M))
+    """The texts of pyproject.toml's table of the project."""
+    return dict(TEXT.findall(tables()["project"]))
+
+
+def entry_points():
+    """The text of entry_points.txt: by what networkx finds the package."""
+    return "".join(f"[{group}]\n" + "".join(f"{name} = {place}\n" for name, place in TEXT.findall(table)) + "\n"
+                   for group, table in ((name.split('"')[1], table) for name, table in tables().items() if "entry-points" in name))
+
+
+def tables():
+    """The tables of pyproject.toml, by their names."""
+    parts = re.split(r"^\[(.*)\]\n", (HERE / "pyproject.toml").read_text(), flags=re.M)
+    return dict(zip(parts[1::2], parts[2::2]))
 
 
 def metadata():
@@ -53,7 +66,8 @@ def write_wheel(folder, tag, files):
     stem = "{name}-{version}".format(**project())
     info = f"{stem}.dist-info"
     wheel = f"Wheel-Version: 1.0\nGenerator: hyperball\nRoot-Is-Purelib: {str(tag.endswith('any')).lower()}\nTag: {tag}\n"
-    files = {**files, f"{info}/METADATA": metadata().encode(), f"{info}/WHEEL": wheel.encode()}
+    files = {**files, f"{info}/METADATA": metadata().encode(), f"{info}/WHEEL": wheel.encode(),
+             f"{info}/entry_points.txt": entry_points().encode()}
     record = "".join(f"{name},sha256={digest(text)},{len(text)}\n" for name, text in files.items()) + f"{info}/RECORD,,\n"
     with zipfile.ZipFile(pathlib.Path(folder, f"{stem}-{tag}.whl"), "w", zipfile.ZIP_DEFLATED) as archive:
         for name, text in {**files, f"{info}/RECORD": record.encode()}.items():

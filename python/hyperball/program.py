@@ -3,16 +3,18 @@ from __future__ import annotations
 
 import os
 import platform
+import re
 import shutil
 import subprocess
 import sys
 import threading
 from collections import deque
+from functools import lru_cache
 from pathlib import Path
 from types import TracebackType
-from typing import IO, Any, Callable, Deque, Iterable, List, Optional, Type, Union
+from typing import IO, Any, Callable, Deque, Iterable, List, Optional, Type
 
-Progress = Union[None, bool, Callable[[str], Any]]
+from hyperball.progress import Progress as Progress, told_by
 
 _PREFIX = "hyperball: "
 
@@ -54,6 +56,19 @@ def find() -> str:
     return program
 
 
+def version() -> Optional[str]:
+    """The version that the program says it has. None if it says none."""
+    found = find()
+    return _version_of(found, os.stat(found).st_mtime_ns)
+
+
+@lru_cache(maxsize=None)
+def _version_of(found: str, _: int) -> Optional[str]:
+    said = subprocess.run([found, "--version"], stdin=subprocess.DEVNULL, capture_output=True, check=False)
+    version = re.fullmatch(rb"hyperball ([\w.+-]+)\n", said.stdout)
+    return version[1].decode() if version else None
+
+
 class Program:
     """A run of the program with these words. It is ended if the block that it is for ends by an exception."""
 
@@ -62,7 +77,7 @@ class Program:
                                          stderr=subprocess.PIPE)
         assert self._process.stdin and self._process.stdout and self._process.stderr
         self._input, self._output = self._process.stdin, self._process.stdout
-        self._told = _Told(self._process.stderr, progress, self._process.terminate)
+        self._told = _Told(self._process.stderr, told_by(progress), self._process.terminate)
 
     def __enter__(self) -> Program:
         return self
@@ -107,7 +122,7 @@ class Program:
 class _Told:
     """The lines that the program writes to its standard error, and who is told them."""
 
-    def __init__(self, lines: IO[bytes], progress: Progress, stop: Callable[[], None]) -> None:
+    def __init__(self, lines: IO[bytes], progress: Optional[Callable[[str], Any]], stop: Callable[[], None]) -> None:
         self.error: Optional[BaseException] = None
         self._lines, self._progress, self._stop = lines, progress, stop
         self._last: Deque[str] = deque(maxlen=100)
@@ -137,9 +152,7 @@ class _Told:
 
     def _tell(self, line: str) -> None:
         try:
-            if self._progress is True:
-                print(line, file=sys.stderr, flush=True)
-            elif callable(self._progress):
+            if self._progress is not None:
                 self._progress(line[len(_PREFIX):] if line.startswith(_PREFIX) else line)
         except BaseException as error:  # it is raised again where the run was called
             self.error = error

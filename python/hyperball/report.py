@@ -15,10 +15,17 @@ from __future__ import annotations
 
 import heapq
 import os
+import warnings
 from array import array
 from collections.abc import Sequence
 from fractions import Fraction
+from importlib import import_module
+from itertools import chain
 from typing import Any, Callable, Dict, Iterable, Iterator, List, NamedTuple, Optional, Union, overload
+
+from hyperball import plots, views
+from hyperball.options import top_of
+from hyperball.saved import Options, lines_of, millionths_of, read_head, unquoted
 
 UNIT = 10**6
 
@@ -77,6 +84,7 @@ class Vertices(Sequence[Vertex]):
         self._reachable: Union[array[int], List[int]] = array("Q")
         self._harmonic: Union[array[int], List[int]] = array("Q")
         self._lin: Union[array[int], List[int]] = array("Q")
+        self._printed_closeness = array("Q")
 
     def __len__(self) -> int:
         return len(self.label)
@@ -97,6 +105,9 @@ class Vertices(Sequence[Vertex]):
 
     def __repr__(self) -> str:
         return f"<{len(self)} vertices>"
+
+    def _repr_html_(self) -> str:
+        return views.of_vertices(self)
 
     @property
     def reachable(self) -> Figures:
@@ -120,7 +131,7 @@ class Vertices(Sequence[Vertex]):
 
     @property
     def closeness(self) -> Figures:
-        """1 divided by the sum of distances, with all its digits, or 0 if that sum is 0."""
+        """1 divided by the sum of distances, as exact as Lin's index tells that sum, or 0 if it is 0."""
         return Figures(len(self), self._closeness, self._near)
 
     def figures(self, name: str) -> Figures:
@@ -133,6 +144,10 @@ class Vertices(Sequence[Vertex]):
     def millionths(self, place: int) -> tuple[int, int, int]:
         """Reachable, harmonic centrality and Lin's index as they stand in the report, in whole millionths."""
         return self._reachable[place], self._harmonic[place], self._lin[place]
+
+    def printed(self, place: int) -> tuple[int, int, int, int]:
+        """The four figures as they stand in the report, in whole millionths: of closeness that leaves few digits, or none."""
+        return self._reachable[place], self._harmonic[place], self._printed_closeness[place], self._lin[place]
 
     def mean_distance(self, place: int, alone: Fraction) -> Optional[float]:
         """The mean distance of the others that reach it; ``alone`` is how many reach a vertex alone. None if none do."""
@@ -175,17 +190,18 @@ class Vertices(Sequence[Vertex]):
     def _take(self, lines: Iterable[str], label: Callable[[str], Any]) -> None:
         add_label, add_reachable, add_harmonic = self.label.append, self._reachable.append, self._harmonic.append
         for line in lines:
-            head, reachable, harmonic, _, lin, empty = line.rsplit(",", 5)
+            head, reachable, harmonic, closeness, lin, empty = line.rsplit(",", 5)
             if not head.startswith("vertex,"):
                 raise ValueError("no line of a vertex")
-            add_label(label(_unquoted(head[7:])))
-            add_reachable(_millionths(reachable))
-            add_harmonic(_millionths(harmonic))
+            add_label(label(unquoted(head[7:])))
+            add_reachable(millionths_of(reachable))
+            add_harmonic(millionths_of(harmonic))
+            self._printed_closeness.append(millionths_of(closeness))
             self.empty.append(int(empty))
             try:
-                self._lin.append(_millionths(lin))
+                self._lin.append(millionths_of(lin))
             except OverflowError:
-                self._lin = [*self._lin, _millionths(lin)]
+                self._lin = [*self._lin, millionths_of(lin)]
 
 
 class Report:
@@ -193,11 +209,14 @@ class Report:
 
     ``supersteps`` are N(0), N(1), ..: how many pairs of vertices have a path of at most so many edges. ``end`` is the last
     superstep, ``stable`` whether nothing changed there, and ``gain`` rewards short distances. ``vertices`` has the columns.
+    ``options`` says what made it; it is None where that is not known.
     """
 
     def __init__(self) -> None:
         self.end = 0
         self.stable = False
+        self.options: Optional[Options] = None
+        self._is_told = False
         self.vertices = Vertices()
         self._totals: List[int] = []
         self._gain = 0
@@ -207,7 +226,12 @@ class Report:
     def of(cls, lines: Iterable[str], label: Callable[[str], Any] = str) -> Report:
         """The report of these lines. ValueError if they are none."""
         report, rest = cls(), iter(lines)
+        first = next(rest, "")
         try:
+            if first.startswith("#"):
+                report.options, label = read_head(first)
+            else:
+                rest = chain([first], rest)
             report._take_head(rest)
             report.vertices._take(rest, label)
         except (ValueError, OverflowError):
@@ -216,25 +240,46 @@ class Report:
 
     @classmethod
     def read(cls, path: Union[str, os.PathLike[str]]) -> Report:
-        """A report that was saved. Its labels are texts. ValueError if it is none."""
+        """A report that was saved, or that the program wrote, whose labels are texts. ValueError if it is none."""
         with open(path, encoding="utf-8", errors="surrogateescape", newline="\n") as lines:
             try:
                 return cls.of(lines)
             except ValueError:
                 raise ValueError(f"{os.fspath(path)} is no report of hyperball run") from None
 
+    def save(self, path: Union[str, os.PathLike[str]]) -> None:
+        """Writes the report for ``read``: as the program does, after a line that says what made it.
+
+        Labels that are no texts are read as they were: whole numbers, and literals of Python. ValueError names another.
+        """
+        lines = lines_of(self)
+        head = next(lines)  # (it comes when all labels were looked at: before the file is opened)
+        with open(path, "w", encoding="utf-8", errors="surrogateescape", newline="\n") as file:
+            file.writelines(line + "\n" for line in chain([head], lines))
+
     def __repr__(self) -> str:
         return f"<Report of {len(self.vertices)} vertices, {self.end} supersteps, {'stable' if self.stable else 'limit'}>"
 
+    def _repr_html_(self) -> str:
+        return views.of_report(self)
+
     def __getitem__(self, label: Any) -> Vertex:
         """The vertex of this label. KeyError if it has none."""
-        return self.vertices[self._place_of()[label]]
+        return self.vertices[self.place(label)]
+
+    def place(self, label: Any) -> int:
+        """The place of the vertex of this label among the vertices. KeyError if it has none."""
+        return self._place_of()[label]
 
     def __contains__(self, label: Any) -> bool:
         """Whether it has a vertex of this label."""
         return label in self._place_of()
 
-    __iter__ = None  # (of what? Say report.vertices, or report.vertices.label)
+    def __len__(self) -> int:
+        return len(self.vertices)
+
+    def __iter__(self) -> Iterator[Vertex]:
+        return iter(self.vertices)
 
     def _place_of(self) -> Dict[Any, int]:
         if self._places is None:
@@ -251,6 +296,10 @@ class Report:
         """The growth of N at distance i weighs 2^-i."""
         return self._gain / UNIT
 
+    def gain_millionths(self) -> int:
+        """The gain in whole millionths."""
+        return self._gain
+
     def totals(self) -> List[int]:
         """The neighbourhood function in whole millionths."""
         return list(self._totals)
@@ -262,10 +311,12 @@ class Report:
     def effective_diameter(self, share: float = 0.9) -> Optional[float]:
         """The distance within which this share of all reachable pairs lie, read on a straight line between two supersteps.
 
-        None if the pairs of a vertex and itself are that share already. ValueError if the share is not from 0 to 1.
+        None if the pairs of a vertex and itself are that share already. ValueError if the share is not from 0 to 1. If the
+        report is not stable, it is a lower bound.
         """
         if not 0 <= share <= 1:
             raise ValueError(f"a share is from 0 to 1, not {share!r}")
+        self.tell_limit()
         totals = self._totals
         wanted = Fraction(str(share)) * totals[-1]
         if totals[0] >= wanted:
@@ -274,31 +325,44 @@ class Report:
         return float(after - 1 + (wanted - totals[after - 1]) / (totals[after] - totals[after - 1]))
 
     def mean_distance(self) -> Optional[float]:
-        """The mean distance of all reachable pairs of two vertices. None if there are none."""
+        """The mean distance of all reachable pairs of two vertices. None if there are none. A lower bound if not stable."""
+        self.tell_limit()
         mean = self._mean(1)
         return None if mean is None else float(mean)
 
     def spid(self) -> Optional[float]:
         """The variance of these distances divided by their mean (the shortest-paths index of dispersion)."""
+        self.tell_limit()
         mean, squares = self._mean(1), self._mean(2)
         return None if not mean or squares is None else float((squares - mean * mean) / mean)
 
-    def top(self, figure: str = "harmonic", count: int = 10) -> List[Vertex]:
-        """The vertices that have the greatest figure, the greatest first."""
-        return [self.vertices[place] for place in self.vertices.figures(figure).first(count)]
+    def top(self, figure: Union[str, int] = "harmonic", count: Union[int, str] = 10) -> List[Vertex]:
+        """The vertices that have the greatest figure, the greatest first: ``top(3)``, ``top("lin")``, ``top("lin", 3)``."""
+        name, number = top_of(figure, count)
+        return [self.vertices[place] for place in self.vertices.figures(name).first(number)]
 
     def alone(self) -> Fraction:
         """How many vertices reach a vertex alone, as estimated: N(0) divided by the number of vertices."""
         return Fraction(self._totals[0], UNIT * max(1, len(self.vertices)))
 
+    def plot(self) -> Any:
+        """A matplotlib figure: the neighbourhood function, and harmonic centrality by rank (``.savefig("picture.png")``)."""
+        return plots.of_report(self)
+
     def to_pandas(self) -> Any:
         """A pandas frame with a row for each vertex."""
-        import numpy
-        import pandas
-
+        numpy: Any = import_module("numpy")
+        pandas: Any = import_module("pandas")
         columns = {name: numpy.frombuffer(array("d", self.vertices.figures(name))) for name in (*FIGURES, "distances")}
         empty = numpy.array(self.vertices.empty)
         return pandas.DataFrame({"label": self.vertices.label, **columns, "empty": empty})
+
+    def tell_limit(self) -> None:
+        """Warns, once, that the run ended by its limit, if it did so."""
+        if not (self.stable or self._is_told):
+            self._is_told = True
+            warnings.warn(f"the run ended by its limit, superstep {self.end}: paths of more edges are not counted, and mean_distance "
+                          "and effective_diameter are lower bounds", RuntimeWarning, stacklevel=3)
 
     # The mean of a power of the distances of all reachable pairs of two vertices.
     def _mean(self, power: int) -> Optional[Fraction]:
@@ -312,26 +376,13 @@ class Report:
         for line in lines:
             word, place, text = line.rstrip("\r\n").split(",") if line.startswith(("superstep,", "end,")) else ("", "", "")
             if word == "superstep" and int(place) == len(self._totals):
-                self._totals.append(_millionths(text))
+                self._totals.append(millionths_of(text))
                 continue
             if word != "end" or int(place) != len(self._totals) - 1 or text not in ("stable", "limit"):
                 break
             self.end, self.stable = int(place), text == "stable"
             word, _, text = next(lines, "").rstrip("\r\n").partition(",")
             if word == "gain":
-                self._gain = _millionths(text)
+                self._gain = millionths_of(text)
                 return
         raise ValueError("no report")
-
-
-# The whole millionths of a number with six digits after the point.
-def _millionths(text: str) -> int:
-    whole, _, digits = text.partition(".")
-    if len(digits) != 6:
-        raise ValueError("no number of a report")
-    return int(whole + digits)
-
-
-# A field of comma-separated values as it was before it was quoted.
-def _unquoted(field: str) -> str:
-    return field[1:-1].replace('""', '"') if field.startswith('"') else field

@@ -28,6 +28,7 @@ def program(text):
     with tempfile.TemporaryDirectory() as folder:
         file = Path(folder, "program")
         file.write_text(f"#!{sys.executable}\nimport os, sys, time\nwords = sys.argv[1:]\ngiven = sys.stdin.buffer\n"
+                        f"if words == ['--version']:\n    print('hyperball 9.8.7')\n    sys.exit()\n"
                         f"here = {folder!r}\nreport = {REPORT!r}\nopen(here + '/started', 'w').close()\n{text}\n")
         file.chmod(file.stat().st_mode | stat.S_IXUSR)
         with mock.patch.dict(os.environ, HYPERBALL=str(file)):

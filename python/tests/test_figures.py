@@ -62,7 +62,8 @@ class FiguresOfSmallGraphs(unittest.TestCase):
                 self.assertEqual((other.vertices[:], other.supersteps), (first.vertices[:], first.supersteps))
 
     def test_limit(self):
-        report = hyperball.run([(i, i + 1) for i in range(12)], limit=3)
+        with self.assertWarns(RuntimeWarning):
+            report = hyperball.run([(i, i + 1) for i in range(12)], limit=3)
         self.assertEqual((report.end, report.stable, len(report.supersteps)), (3, False, 4))
 
     def test_counted(self):

@@ -44,7 +44,7 @@ class Pages(unittest.TestCase):
 
     def test_length_of_the_pages(self):
         self.assertLessEqual(len((PAGES / "README.md").read_text(encoding="utf-8").split()), 1200)
-        self.assertLess(len((PAGES / "python" / "README.md").read_text(encoding="utf-8").split()), 500)
+        self.assertLess(len((PAGES / "python" / "README.md").read_text(encoding="utf-8").split()), 650)
 
     def test_modules(self):
         for module in (hyperball, *(importlib.import_module(f"hyperball.{found.name}") for found in pkgutil.iter_modules(hyperball.__path__))):

@@ -1,5 +1,6 @@
 """How the program is found, how it ends, and what it says on the way."""
 import contextlib
+import gzip
 import io
 import os
 import pickle
@@ -27,24 +28,27 @@ class Ends(unittest.TestCase):
         return caught.exception
 
     def test_fault_of_the_program(self):
-        fault = self.fault(log2m=11)
-        self.assertEqual((str(fault), fault.status), ("log2m is not from 4 to 10", 1))
-        fault = self.fault(io.BytesIO(b"a\tb\na\tb\tc\n"))
-        self.assertEqual((str(fault), fault.status), ("record 2 has not one or two identifiers", 1))
-        fault = self.fault(counted=["z"])
-        self.assertEqual((str(fault), fault.status), ("record 1 of the list names no vertex", 1))
+        fault = self.fault(counted=["b", "z"])
+        self.assertEqual(fault.status, 1)
+        self.assertEqual(str(fault), "record 2 of the list names no vertex: 'z' is to be counted, and is not in the graph")
+
+    def test_too_many(self):
+        for text in ("too many records", "too many vertices"):
+            with program(f"given.read(); sys.stderr.write('hyperball: {text}\\n'); sys.exit(1)"):
+                self.assertEqual(str(self.fault()), f"{text}: large=True takes more than 2^26 records or 2^24 vertices")
+                self.assertEqual(str(self.fault(large=True)), text)
 
     def test_fault_after_progress(self):
-        self.assertEqual(str(self.fault(log2m=11, progress=lambda line: None)), "log2m is not from 4 to 10")
+        self.assertTrue(str(self.fault(counted=["z"], progress=lambda line: None)).startswith("record 1 of the list names no vertex"))
 
     def test_mistaken_words(self):
-        fault = self.fault(estimate="none")
-        self.assertEqual(fault.status, 2)
-        self.assertIn("none", str(fault))
+        with program("sys.stderr.write('error: no such word\\n\\nUsage: hyperball\\n'); sys.exit(2)"):
+            fault = self.fault()
+        self.assertEqual((str(fault), fault.status), ("error: no such word\n\nUsage: hyperball", 2))
 
     def test_fault_of_a_long_list(self):
-        edges = ((i, i + 1) for i in range(300000))
-        self.assertEqual(str(self.fault(edges, log2m=11)), "log2m is not from 4 to 10")
+        fault = self.fault(io.BytesIO(b"a\tb\t1\n" + b"a\tb\n" * 3000000))
+        self.assertTrue(str(fault).startswith("record 1 has not one or two identifiers: line 1 is"))
 
     def test_a_pipe_that_is_closed(self):
         with program("sys.stderr.write('hyperball: refused\\n'); sys.exit(1)"):
@@ -91,6 +95,65 @@ class Ends(unittest.TestCase):
         with program("sys.stderr.write('hyperball: a line\\n'); sys.stderr.flush(); given.read(); time.sleep(60)"):
             with self.assertRaisesRegex(KeyError, "a line"):
                 hyperball.run(EDGES, progress=told)
+
+
+class SaysWhere(unittest.TestCase):
+    LIST = b"\xef\xbb\xbf# a comment\r\n\na\tb\r\n#\tc\td\nb\tc\t0.5\r\nc\td\n"
+
+    def setUp(self):
+        folder = tempfile.TemporaryDirectory()
+        self.addCleanup(folder.cleanup)
+        self.path = Path(folder.name, "edges.tsv")
+
+    def said(self, edges, error=hyperball.Fault, **options):
+        with self.assertRaises(error) as caught:
+            hyperball.run(edges, **options)
+        return str(caught.exception)
+
+    def test_a_line_of_a_file(self):
+        self.path.write_bytes(self.LIST)
+        mended = r"is 'b\tc\t0.5', 3 fields: cut the weight, as by cut -f 1,2"
+        for path in (self.path, str(self.path)):
+            self.assertEqual(self.said(path), f"record 2 has not one or two identifiers: line 5 of {self.path} {mended}")
+        self.assertEqual(self.said(self.path, ValueError, undirected=True), f"a line has not one or two fields: line 5 {mended}")
+        self.path.write_bytes(gzip.compress(self.LIST))
+        self.assertEqual(self.said(self.path), f"record 2 has not one or two identifiers: line 5 of {self.path} {mended}")
+
+    def test_a_line_of_an_open_file(self):
+        mended = r"is 'b\tc\t0.5', 3 fields: cut the weight, as by cut -f 1,2"
+        for file in (io.BytesIO(self.LIST), io.StringIO(self.LIST.decode("utf-8"), newline="")):
+            self.assertEqual(self.said(file), f"record 2 has not one or two identifiers: line 5 {mended}")
+        file = io.BytesIO(b"x\ty\tz\n" + self.LIST[3:])
+        file.readline()  # what was read before is not counted
+        self.assertEqual(self.said(file), f"record 2 has not one or two identifiers: line 5 {mended}")
+
+    def test_a_file_that_cannot_go_back(self):
+        class Pipe:
+            def __init__(self, file):
+                self.read = file.read
+
+        self.assertEqual(self.said(Pipe(io.BytesIO(self.LIST))), "record 2 has not one or two identifiers")
+
+    def test_what_would_mend_it(self):
+        for line, delimiter, mended in ((b"a,b,1", ",", "3 fields: cut the weight, as by cut -d , -f 1,2"),
+                                        (b'"a, b",c', "comma", "3 fields: quotes keep no comma in a field, so put tabs between the labels"),
+                                        (b"a b 1 2", " ", "4 fields: cut the weight, as by cut -d ' ' -f 1,2"),
+                                        (b"a  b", " ", "and a label is missing: take spaces away that are too many, as by tr -s ' '"),
+                                        (b"a\t", "\t", "and a label is missing: a line has one label, or two with one delimiter between")):
+            with self.subTest(line):
+                text = f"line 1 is {line.decode()!r}, {mended}"
+                self.assertEqual(self.said(io.BytesIO(line), delimiter=delimiter), f"record 1 has not one or two identifiers: {text}")
+                self.assertEqual(self.said(io.BytesIO(line), ValueError, delimiter=delimiter, undirected=True), f"a line has not one or two fields: {text}")
+
+    def test_a_long_line(self):
+        said = self.said(io.BytesIO(b"a\tb\t" + b"c" * 1000))
+        self.assertIn("ccc'.., 3 fields", said)
+        self.assertLess(len(said), 250)
+
+    def test_a_line_far_down(self):
+        lines = b"aa\tbb\n" * 400000
+        self.assertIn(" line 400001 is 'x\\ty\\tz'", self.said(io.BytesIO(lines + b"x\ty\tz\n" + lines)))
+        self.assertIn(" line 400001 is 'x\\ty\\tz'", self.said(io.BytesIO(lines + b"x\ty\tz\n" + lines), ValueError, undirected=True))
 
 
 class Tells(unittest.TestCase):

@@ -14,7 +14,7 @@ class Reads(unittest.TestCase):
     def test_saved_report(self):
         report = Report.read(PAGES / "examples" / "web.csv")
         self.assertEqual((len(report.vertices), report.end, report.stable), (323, len(report.supersteps) - 1, True))
-        self.assertEqual(report.vertices[0][:3], ("0", 324.078169, 187.313971))
+        self.assertEqual(report.vertices[0][:3], ("0", 324.078169, 231.843801))
         self.assertEqual([vertex.label for vertex in report.top("harmonic", 5)], ["0", "3", "1", "5", "27"])
 
     def test_columns(self):

@@ -111,7 +111,8 @@ class Files(unittest.TestCase):
             file.write(self.LIST)
 
     def test_paths(self):
-        for path in (self.path, str(self.path), self.zipped, str(self.zipped)):
+        unnamed = self.zipped.rename(self.path.parent / "zipped")
+        for path in (self.path, str(self.path), unnamed, str(unnamed)):
             self.assertEqual(given(path), self.LIST)
 
     def test_open_files(self):
@@ -124,6 +125,17 @@ class Files(unittest.TestCase):
     def test_both_ways(self):
         self.assertEqual(given(self.path, undirected=True), b"# a comment\na\tb\nb\ta\nb\tc\nc\tb\nd\n\nc\t\xff\n\xff\tc\n")
         self.assertEqual(given(io.BytesIO(b"\xef\xbb\xbfa\tb\n"), undirected=True), b"a\tb\nb\ta\n")
+        lines = b"".join(b"%d\t%d\n" % (i, i + 1) for i in range(200000))
+        swapped = b"".join(b"%d\t%d\n" % (i + 1, i) for i in range(200000))
+        self.assertEqual(sorted(given(io.BytesIO(lines), undirected=True).split()), sorted((lines + swapped).split()))
+        report = hyperball.run(io.BytesIO(b"x\ty\nz\tx\ny\tw\n"), undirected=True)
+        self.assertEqual(report.vertices.label, ["x", "y", "z", "w"])
+        self.assertEqual([round(reachable) for reachable in report.vertices.reachable], [4, 4, 4, 4])
+        self.assertEqual(given(io.BytesIO(b"a\tb\nc\td\n"), undirected=True), b"a\tb\nc\td\nb\ta\nd\tc\n")
+        self.assertEqual(given(io.BytesIO(b"a\tb\nc\n\nd"), undirected=True), b"a\tb\nb\ta\nc\n\nd\n")
+        for list_ in (b"a\tb\n\tc\n", b"a\tb\nc\t\n", b"a\tb\tc\nd\n"):
+            with self.subTest(list_), self.assertRaisesRegex(ValueError, "has not one or two fields"):
+                given(io.BytesIO(list_), undirected=True)
         with self.assertRaisesRegex(ValueError, "is a comment the other way round"):
             given(io.BytesIO(b"a\t#b\n"), undirected=True)
         with self.assertRaisesRegex(ValueError, "has not one or two fields"):
@@ -144,6 +156,13 @@ class Files(unittest.TestCase):
             hyperball.run(self.path, delimiter=";")
         with self.assertRaisesRegex(ValueError, "for paths and open files"):
             hyperball.run([("a", "b")], delimiter="comma")
+        for delimiter, name in ((",", "comma"), (" ", "space"), ("comma", "comma")):
+            with program(ECHO) as folder:
+                hyperball.run(io.BytesIO(b"a b\n"), delimiter=delimiter)
+                self.assertEqual((folder / "words").read_text().split("\n")[-2:], ["--delimiter", name])
+        with program(ECHO) as folder:
+            hyperball.run(io.BytesIO(b"a\tb\n"), delimiter="\t")
+            self.assertNotIn("--delimiter", (folder / "words").read_text())
 
     def test_no_file(self):
         with program(ECHO) as folder:
@@ -166,8 +185,15 @@ class Networkx(unittest.TestCase):
 
     def test_undirected_and_with_more_edges(self):
         self.assertEqual(given(networkx.path_graph(3)), b"0\n1\n2\n0\t1\n1\t0\n1\t2\n2\t1\n")
-        self.assertEqual(given(networkx.MultiDiGraph([(0, 1), (0, 1)])), b"0\n1\n0\t1\n0\t1\n")
+        self.assertEqual(given(networkx.MultiDiGraph([(0, 1), (0, 1)])), b"0\n1\n0\t1\n")
         self.assertEqual(given(networkx.DiGraph([(0, 1)]), undirected=True), b"0\n1\n0\t1\n1\t0\n")
+        self.assertEqual(given(networkx.DiGraph([("a", "b"), ("a", "c")]), undirected=True), b"a\nb\nc\na\tb\na\tc\nb\ta\nc\ta\n")
+        self.assertEqual(given(networkx.Graph()), b"")
+
+    def test_nodes_that_are_equal_and_of_another_type(self):
+        graph = networkx.DiGraph([(1, 2)])
+        graph.add_edges_from([(2, 1.0), (True, 3)])
+        self.assertEqual(given(graph), b"1\n2\n3\n1\t2\n1\t3\n2\t1\n")
 
     def test_nodes_of_any_kind(self):
         graph = networkx.grid_2d_graph(3, 3)
@@ -226,8 +252,8 @@ class Pandas(unittest.TestCase):
         self.assertEqual(list(frame["empty"]), list(report.vertices.empty))
         repeated = hyperball.repeat([("a", "b"), ("b", "c")], seeds=(1, 2, 3))
         frame = repeated.to_pandas()
-        self.assertAlmostEqual(frame["harmonic"][2], repeated[2].harmonic.mean)
-        self.assertAlmostEqual(frame["harmonic_error"][2], repeated[2].harmonic.error)
+        self.assertAlmostEqual(frame["harmonic"][2], repeated.vertices[2].harmonic.mean)
+        self.assertAlmostEqual(frame["harmonic_error"][2], repeated.vertices[2].harmonic.error)
 
 
 @unittest.skipUnless(igraph, "igraph is not there")
@@ -235,11 +261,26 @@ class Igraph(unittest.TestCase):
     def test_numbers(self):
         self.assertEqual(given(igraph.Graph(4, [(0, 1), (1, 2)], directed=True)), b"0\n1\n2\n3\n0\t1\n1\t2\n")
         self.assertEqual(given(igraph.Graph(2, [(0, 1)])), b"0\n1\n0\t1\n1\t0\n")
+        self.assertEqual(given(igraph.Graph(2, [(0, 1)], directed=True), undirected=True), b"0\n1\n0\t1\n1\t0\n")
+        self.assertEqual(given(igraph.Graph()), b"")
+        report = hyperball.run(igraph.Graph(3, [(0, 1)], directed=True), counted=[0])
+        self.assertEqual((report.vertices.label, [round(reachable) for reachable in report.vertices.reachable]), ([0, 1, 2], [1, 1, 0]))
 
     def test_names(self):
         graph = igraph.Graph(2, [(0, 1)], directed=True)
         graph.vs["name"] = ["a", "b"]
         self.assertEqual(hyperball.run(graph).vertices.label, ["a", "b"])
+        self.assertEqual(round(hyperball.run(graph, counted=["b"])["b"].reachable), 1)
+        with self.assertRaisesRegex(hyperball.Fault, "record 2 of the list names no vertex: '0' is to be counted"):
+            hyperball.run(graph, counted=["b", "0"])
+        graph.vs["name"] = ["ä", (1, "b")]
+        self.assertEqual(given(graph, undirected=True, counted=[(1, "b")]), b"0\n1\n0\t1\n1\t0\n%%\n1\n")
+        self.assertEqual(hyperball.run(graph).vertices.label, ["ä", (1, "b")])
+        graph.vs["name"] = [7, 3]
+        self.assertEqual([round(hyperball.run(graph)[label].reachable) for label in (7, 3)], [1, 2])
+        graph.vs["name"] = ["a", None]
+        with self.assertRaisesRegex(ValueError, "a label is missing: None"):
+            given(graph)
         graph.vs["name"] = ["a", "a"]
         with self.assertRaisesRegex(ValueError, "have one name"):
             given(graph)

@@ -40,6 +40,8 @@ class Wheel(unittest.TestCase):
         with zipfile.ZipFile(self.folder / made.stdout.strip()) as wheel:
             self.assertIsNone(wheel.testzip())
             self.assertLess({"hyperball/__init__.py", "hyperball/py.typed"}, set(wheel.namelist()))
+            points = wheel.read(f"hyperball-{hyperball.__version__}.dist-info/entry_points.txt").decode()
+            self.assertIn("[networkx.backends]\nhyperball = hyperball.dispatch\n", points)
 
     @unittest.skipUnless((sys.platform, os.uname().machine) == ("linux", "x86_64"), "the program is one for Linux on x86-64")
     def test_with_the_program(self):
