@@ -1,40 +1,10 @@
 -- Commands as they are read.
-use Rattle.std.proofs.Common.{◌≡◌, ◌≢◌, ℕ, suc, ◌+◌, ◌*◌, ◌-◌, ◌<◌, ◌≤◌, true, false, List, [], ◌∷◌, ◌++◌, length, take, min, slice_index, refl, arith, sym}
-use Rattle.std.specs.Prelude.{None, Some, decimal, ◌^◌}
-use Rattle.std.specs.Str.{bytes_eq}
-use Rattle.std.proofs.Math.Seq.{take-suc}
-use Rattle.std.proofs.lemmas.Bool.{le-ltb, lt-ltb}
+use Rattle.std.proofs.Common.{◌≡◌, ◌≢◌, ℕ, List, [], ◌∷◌, refl, sym}
+use Rattle.std.specs.Prelude.{None, Some}
 use Rattle.ball_model.specs.Input.{fields}
-use Rattle.ball_model.specs.WorldText.{value_from}
 use Rattle.world.specs.Script.{cut_of}
-use Rattle.world.proofs.ScriptLemmas.{fields-cut, fields-some, fields-uncut, value-more}
-use Rattle.node.specs.Commands.{most_size}
-use Rattle.node.specs.NodeText.{command_in, lone_command, size_in, sized_command}
-
--- as far as the digits count
-pub size_step : (xs : List ℕ) (i v d r : ℕ) → i < length xs → v ≡ min (value_from 0 (take i xs)) most_size → d ≡ slice_index xs i - 48 → r ≡ min (v * 10 + d) most_size → r ≡ min (value_from 0 (take (i + 1) xs)) most_size
-size_step xs i v d r lt so_far digit is =
-    let more : take (suc i) xs ≡ take i xs ++ slice_index xs i ∷ [] = take-suc xs i 0 lt in
-    let next : i + 1 ≡ suc i = omega arith in
-    let value = value-more 0 (take i xs) (slice_index xs i) in
-    rw (next, more, value) (omega (arith, so_far, digit, is))
-
-pub size_is : (word text : List ℕ) (v : ℕ) → v ≡ min (value_from 0 word) most_size → v < most_size → bytes_eq word text ≡ true → text ≡ decimal v → Some v ≡ size_in word
-unfolding size_in
-size_is word text v is few same printed =
-    let value : value_from 0 word ≡ v = omega (arith, is, few) in
-    rw (value, lt-ltb v (10 ^ 18) few, ← printed, same) refl
-
-pub size_great : (word : List ℕ) (v : ℕ) → v ≡ min (value_from 0 word) most_size → most_size ≤ v → None ≡ size_in word
-unfolding size_in
-size_great word v is many =
-    rw (le-ltb (value_from 0 word) (10 ^ 18) (omega (arith, is, many))) refl
-
-pub size_other : (word text : List ℕ) (v : ℕ) → v ≡ min (value_from 0 word) most_size → v < most_size → bytes_eq word text ≡ false → text ≡ decimal v → None ≡ size_in word
-unfolding size_in
-size_other word text v is few other printed =
-    let value : value_from 0 word ≡ v = omega (arith, is, few) in
-    rw (value, lt-ltb v (10 ^ 18) few, ← printed, other) refl
+use Rattle.world.proofs.ScriptLemmas.{fields-cut, fields-some, fields-uncut}
+use Rattle.node.specs.NodeText.{command_in, lone_command, sized_command}
 
 -- a line of one word
 pub command_lone : (line : List ℕ) → None ≡ cut_of 32 line → lone_command line ≡ command_in (fields 32 line)

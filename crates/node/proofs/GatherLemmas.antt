@@ -5,7 +5,7 @@ use Rattle.std.specs.Str.{bytes_eq}
 use Rattle.std.proofs.lemmas.Bool.{eqb-true}
 use Rattle.std.proofs.lemmas.Slice.Eq.{bytes_eq-Decides}
 use Rattle.ball_model.specs.WorldText.{value_from}
-use Rattle.world.specs.Script.{cut_of}
+use Rattle.world.specs.Script.{cut_of, number_below}
 use Rattle.world.proofs.ScriptLemmas.{pair-of}
 use Rattle.std.specs.List.{All}
 use Rattle.std.specs.Io.KnownBytes.{Appends, Consumes, IsAtEnd}
@@ -135,7 +135,7 @@ size_test word v n true false same is = absurd (cc)
 size_test word v n false u same is = absurd (cc)
 
 size_spelled : (word : List ℕ) (n : ℕ) → Some n ≡ size_in word → word ≡ decimal n
-unfolding size_in
+unfolding number_below
 size_spelled word n is = size_test word (value_from 0 word) n (nat_lt (value_from 0 word) (10 ^ 18)) (bytes_eq word (decimal (value_from 0 word))) refl is
 
 pub part_spelled : (line a b : List ℕ) (n : ℕ) → Some (a, b) ≡ cut_of 32 line → bytes_eq a (codes "part") ≡ true → Some n ≡ size_in b → line ++ 10 ∷ [] ≡ part_line n

@@ -29,13 +29,13 @@ use Rattle.ball_model.specs.Steps.{Take, Close}
 use Rattle.ball_model.specs.World.{closed_answer, taken_answer}
 use Rattle.ball_model.specs.WorldText.{number_line, refusal_line, show_text, untaken_line, words_line}
 use Rattle.world.specs.declared.tell.TellError.{TellError}
-use Rattle.world.specs.Tell.{Tells}
+use Rattle.world.specs.Tell.{AppendsOf, Tells}
 use Rattle.node.specs.declared.command.Command.{Command}
 use Rattle.node.specs.declared.command.Command.TheVariants as command
 use Rattle.node.specs.declared.session.Reply.{Reply}
 use Rattle.node.specs.NodeText.{AnswersOne, Question, Asks, IsDelivered, IsGivenBack, Send, Deliver, Closing, Keep, Restart, Recover, IsNotFor, NoBatch, NotFor, NoCheckpoint, Show, Totals, Figures, after_asked, the_lone_node, closed_line, figures_text, refused_line, send_text, sent_text, took_line, totals_text}
 use Rattle.node.specs.Serving.{IfRefused, Steps}
-use Rattle.node.specs.Turns.{AppendsOf, Holds, TurnsTo, batch_word, checkpoint_word, reply_text, said_text}
+use Rattle.node.specs.Turns.{Holds, TurnsTo, batch_word, checkpoint_word, reply_text, said_text}
 use Rattle.ball_model.specs.Job.{PartValue, part_of}
 use Rattle.batches.specs.declared.error.BatchError.{BatchError}
 use Rattle.checkpoint.specs.declared.error.KeepError.{KeepError}

@@ -1,12 +1,18 @@
--- What is read of a line and of a body.
+-- What is read of a line and of a body, and calls that failed.
 use Rattle.std.proofs.Common.{◌≡◌, ◌≢◌, ◌+◌, ◌-◌, ◌≤◌, ℕ, List, [], ◌∷◌, ◌++◌, length, take, ap, arith, length-append}
-use Rattle.std.specs.Prelude.{Option}
+use Rattle.std.specs.Prelude.{Option, Result, Ok, Err}
 use Rattle.std.specs.Io.KnownBytes.{Consumes}
 use Rattle.std.proofs.KnownBytes.{Consumes-nil, Consumes-trans}
 use Rattle.std.proofs.lemmas.List.{length-take}
 use Rattle.std.proofs.lemmas.List.Elements.{All-push}
+use Rattle.ball_model.specs.Job.{Job}
+use Rattle.ball_model.specs.Join.{Holding}
+use Rattle.ball_model.specs.State.{State}
 use Rattle.ball_model.specs.Streams.{EndsAfter}
-use Rattle.node.specs.Stream.{CutsBody, HasNoEnd, ReadsBody, ReadsInLine}
+use Rattle.world.specs.Tell.{TellsOf}
+use Rattle.world.specs.declared.tell.TellError.{TellError}
+use Rattle.world.specs.declared.tell.TellError.TheVariants as untold
+use Rattle.node.specs.Stream.{CutsBody, FailsAs, HasNoEnd, ReadsBody, ReadsInLine}
 
 -- all of so many bytes but the last n were read
 pub record ReadsAllBut (size n : ℕ) (old new : Option (List ℕ)) : Type 0 where
@@ -65,4 +71,13 @@ byte_read a b c line byte empty some next none other = record {
   first = omega (arith, length-append line (byte ∷ []), ap length empty);
   consumed = Consumes-trans a b c line (byte ∷ []) some next;
   one_line = All-push (λ (x : ℕ). x ≢ 10) line byte none other;
+}
+
+-- ---- a text of a replica
+pub fails_of : {W : Type 0} (contents : W → Option (List ℕ)) (failed : W → ℕ) (v : State) (f : Job → Holding → List ℕ) (old new : W) (r : Result (Unit {0}) TellError) →
+    TellsOf contents failed v f old new r → FailsAs failed old new r (Err untold.Write)
+fails_of contents failed v f old new (Ok u) told = record { some = λ is. absurd (cc); none = λ other. told.counted }
+fails_of contents failed v f old new (Err e) told = record {
+  some = λ is. told.failed_one (cc);
+  none = λ other. told.counted (λ same. other (ap Err same));
 }

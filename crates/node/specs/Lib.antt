@@ -1,5 +1,4 @@
 pub mod NodeText
-pub mod Commands
 pub mod Section
 pub mod Stream
 pub mod Turns

@@ -29,11 +29,11 @@ abbrev pub length_behind : Option (List ℕ × List ℕ) → Option ℕ
 length_behind None = None
 length_behind (Some words) = if bytes_eq words.0 (codes "part") then size_in words.1 else None
 
--- the length that a line tells: the word part, a space, and a length
+-- the length in a line: the word part, a space, and a length
 abbrev pub part_length : List ℕ → Option ℕ
 part_length line = length_behind (cut_of 32 line)
 
--- a line that tells none, or one that is longer than any that does
+-- a line that has none, or one that is longer than any that has
 pub record NoPartLine (left left' : Option (List ℕ)) : Type 0 where
   pub line : List ℕ
   pub one_line : HasNoEnd line

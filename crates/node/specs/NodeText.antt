@@ -19,11 +19,12 @@ use Rattle.ball_model.specs.Report.{superstep_line, vertex_text}
 use Rattle.ball_model.specs.State.{State, own_vertices}
 use Rattle.ball_model.specs.Steps.{Take, Close}
 use Rattle.ball_model.specs.Supersteps.{total_over}
-use Rattle.ball_model.specs.WorldText.{number_line, part_in, refusal_line, show_text, taken_line, unclosed_line, untaken_line, value_from, words_line}
+use Rattle.ball_model.specs.WorldText.{number_line, part_in, refusal_line, show_text, taken_line, unclosed_line, untaken_line, words_line}
 use Rattle.batches.specs.Reading.{batch_at}
 use Rattle.batches.specs.declared.error.BatchError.{BatchError}
 use Rattle.checkpoint.specs.Reading.{IsReplicaSpelling}
 use Rattle.checkpoint.specs.declared.error.KeepError.{KeepError}
+use Rattle.world.specs.Script.{number_below}
 use Rattle.world.specs.Shows.{Has, KeepsContent}
 use Rattle.node.specs.declared.command.Command.{Command}
 use Rattle.node.specs.declared.command.Command.TheVariants as command
@@ -33,12 +34,9 @@ use Rattle.node.specs.Turns.{batch_word, checkpoint_word, most_body}
 
 -- ---- commands as lines
 
--- the length that a word spells, which has at most 18 digits and is spelled as numbers are printed
-unfoldable pub size_in : List ℕ → Option ℕ
-size_in word =
-    if nat_lt (value_from 0 word) (10 ^ 18) && bytes_eq word (decimal (value_from 0 word))
-    then Some (value_from 0 word)
-    else None
+-- the length that a word spells, which has at most 18 digits
+abbrev pub size_in : List ℕ → Option ℕ
+size_in word = number_below (10 ^ 18) word
 
 -- a command of one word
 abbrev pub lone_command : List ℕ → Option Command
@@ -85,7 +83,7 @@ pub record Request : Type 0 where
   pub body : List ℕ
 
 -- the line, which has no LF and fewer than 64 bytes, says the command, and as many bytes follow it as the command
--- tells, which are no more than a batch or a checkpoint of the part has at most
+-- says, which are no more than a batch or a checkpoint of the part has at most
 pub record IsRequest (part : PartValue) (r : Request) : Type 0 where
   pub one_line : All (λ b. b ≢ 10) r.line
   pub short : length r.line < MOST_LINE
@@ -116,7 +114,7 @@ pub data Question : Type 0 where
   Totals : Question
   Figures : Question
 
--- the bytes are the spelling of the true batch of that name, which one partition may tell another
+-- the bytes are the spelling of the true batch of that name, which one partition may send another
 pub record IsDelivered (j : Job) (body : List ℕ) (name : BatchName) : Type 0 where
   pub named : IsName j.plan name
   pub spelled : body ≡ batch_bytes (true_batch j name)
@@ -179,7 +177,8 @@ abbrev pub closed_line : Result ℕ CloseError → List ℕ
 closed_line (Ok t) = number_line (codes "closed") t
 closed_line (Err e) = unclosed_line e
 
--- the line before a batch that is sent: its name, how much it tells, and how many bytes follow
+-- the line before a batch that is sent: its name, how many vertices changed, how many rows it has, and how many bytes
+-- follow
 abbrev pub sent_line : BatchValue → ℕ → List ℕ
 sent_line b n =
     words_line
@@ -190,7 +189,7 @@ sent_line b n =
 abbrev pub sent_text : BatchValue → List ℕ
 sent_text b = sent_line b (length (batch_bytes b)) ++ batch_bytes b
 
--- what a node tells partition q, which is another one
+-- what a node sends partition q, which is another one
 abbrev pub send_text : Job → Holding → ℕ → List ℕ
 send_text j h q =
     if nat_lt q j.plan.parts && not (q == h.partition)

@@ -23,7 +23,7 @@ SaysOfBatch plan bytes (reply.Answered a) = IsOk (batch_at plan bytes)
 SaysOfBatch plan bytes (reply.NoBatch e) = batch_at plan bytes ≡ Err e
 SaysOfBatch plan bytes (reply.NoCheckpoint e) = ⊥
 
--- the form of the part refuses the bytes so, or they are of the form and tell what no replica has
+-- the form of the part refuses the bytes so, or they are of the form and say what no replica has
 pub record IsNoCheckpoint (part : PartValue) (bytes : List ℕ) (e : KeepError) : Type 0 where
   pub of_bytes : IsOfBytes e
   pub due : (sealed_form part bytes ≡ Err e)

@@ -24,7 +24,7 @@ pub record IsAhead (begins : Bool) (ahead : List ℕ) : Type 0 where
   pub front : begins ≡ true → is_front ahead ≡ true
   pub tail : is_tail ahead ≡ true
 
--- what was read ahead up to the first byte that tells whether a mark is there
+-- what was read ahead up to the first byte that shows whether a mark is there
 pub record IsPast (ahead : List ℕ) : Type 0 where
   pub tail : is_tail ahead ≡ true
   pub nothing : IfSome (after_mark ahead) (λ rest. rest ≡ [])

@@ -205,7 +205,7 @@ pub record Runs (network : Network) (rs : List Request) (v w : State)
   pub holds : (j : Job) (p : ℕ) (h : Holding) (more : List Question) → j.graph ≡ network.graph →
       Holds j p h v → AllAsk j p rs more → Holds j p (after_all_asked j h more) w
 
--- so many requests were read and answered
+-- that many requests were read and answered
 pub record ServesSome (network : Network) (number : ℕ) (left left' : Option (List ℕ)) (v w : State)
     (old new : Option (List ℕ)) : Type 0 where
   pub requests : List Request

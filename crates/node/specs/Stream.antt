@@ -52,13 +52,13 @@ ReadsLine old new line outcome.Long = LongLine old new line
 ReadsLine old new line outcome.Memory = ReadsInLine old new
 ReadsLine old new line outcome.Failed = ⊤
 
--- so many bytes were read
+-- bytes of that size were read
 pub record ReadsBody (size : ℕ) (old new : Option (List ℕ)) : Type 0 where
   pub bytes : List ℕ
   pub consumed : Consumes old new bytes
   pub long : length bytes ≡ size
 
--- the input ended within so many bytes
+-- the input ended within that many bytes
 pub record CutsBody (size : ℕ) (old new : Option (List ℕ)) : Type 0 where
   pub bytes : List ℕ
   pub consumed : Consumes old new bytes

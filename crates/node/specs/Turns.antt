@@ -1,6 +1,5 @@
 -- What a node says to a command, and how it is written.
-use Rattle.std.specs.Prelude.{◌≡◌, ℕ, List, [], ◌∷◌, codes, decimal, max, Option, Result, Ok, Err, IsErr}
-use Rattle.std.specs.Io.KnownBytes.{Appends}
+use Rattle.std.specs.Prelude.{◌≡◌, ℕ, List, [], ◌∷◌, codes, decimal, max, Result, Ok, Err, IsErr}
 use Rattle.ball_model.specs.declared.names.MergeError.{MergeError}
 use Rattle.ball_model.specs.declared.names.MergeError.TheVariants as unmerged
 use Rattle.batches.specs.declared.error.BatchError.{BatchError}
@@ -12,7 +11,7 @@ use Rattle.ball_model.specs.declared.world.Answer.{Answer}
 use Rattle.ball_model.specs.declared.world.Answer.TheVariants as answer
 use Rattle.ball_model.specs.Batches.{BatchValue}
 use Rattle.ball_model.specs.Content.{is_new}
-use Rattle.ball_model.specs.Held.{HasHolding, IsHeldBy}
+use Rattle.ball_model.specs.Held.{IsHeldBy}
 use Rattle.ball_model.specs.Job.{Job, PartValue}
 use Rattle.ball_model.specs.Join.{Holding}
 use Rattle.ball_model.specs.State.{SameShown, State, further}
@@ -48,14 +47,6 @@ pub record TurnsTo (j : Job) (p : ℕ) (a : Answer) (h : Holding) (v : State)
     (r : Reply) : Type 0 where
   pub says : r ≡ reply.Answered a
   pub holds : Holds j p h v
-
--- a text was appended that is said of a replica v: for each holding of a job that v has it is the one that is made of
--- them
-pub record AppendsOf (v : State) (text_of : Job → Holding → List ℕ)
-    (old new : Option (List ℕ)) : Type 0 where
-  pub text : List ℕ
-  pub appended : Appends old new text
-  pub told : (j : Job) (h : Holding) → HasHolding j h v → text ≡ text_of j h
 
 -- a replica v was brought the batch, true or not, and is w: it shows what it showed, and holds what it held, and the
 -- batch's name if that was new

@@ -70,7 +70,7 @@ fn put_said(line: &mut Vec<u8>, answer: Answer) -> Result<(), AllocError>
 }
 
 /// Adds the line of what a node says.
-pub fn put_reply(line: &mut Vec<u8>, reply: Reply) -> Result<(), AllocError>
+pub(crate) fn put_reply(line: &mut Vec<u8>, reply: Reply) -> Result<(), AllocError>
     ensures { OnOk result (line.new.items ≡ line.old.items ++ reply_text reply) }
 {
     match reply {
@@ -80,8 +80,9 @@ pub fn put_reply(line: &mut Vec<u8>, reply: Reply) -> Result<(), AllocError>
     }
 }
 
-/// Adds the line of a batch that is sent: its name, how much it tells, and how many bytes follow.
-pub fn put_sent(line: &mut Vec<u8>, batch: &Batch) -> Result<(), AllocError>
+/// Adds the line of a batch that is sent: its name, how many vertices changed, how many rows it has, and how many bytes
+/// follow.
+pub(crate) fn put_sent(line: &mut Vec<u8>, batch: &Batch) -> Result<(), AllocError>
     ensures { OnOk result (line.new.items ≡ line.old.items ++ words_line
         (codes "sent" ∷ decimal batch.now.name.superstep ∷ decimal batch.now.name.source
         ∷ decimal batch.now.name.target ∷ decimal batch.now.changed
@@ -103,7 +104,7 @@ pub fn put_sent(line: &mut Vec<u8>, batch: &Batch) -> Result<(), AllocError>
 }
 
 /// Adds the line of a checkpoint that is given: its superstep, and how many bytes follow.
-pub fn put_kept(line: &mut Vec<u8>, superstep: u32, length: u64) -> Result<(), AllocError>
+pub(crate) fn put_kept(line: &mut Vec<u8>, superstep: u32, length: u64) -> Result<(), AllocError>
     ensures { OnOk result (line.new.items ≡ line.old.items ++ words_line
         (codes "kept" ∷ decimal superstep ∷ decimal length ∷ [])) }
 {

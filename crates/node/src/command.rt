@@ -1,22 +1,19 @@
 //! Commands of a node: a line of one word or two.
 
-ghost use Rattle.std.specs.Prelude.{◌≡◌, min};
+ghost use Rattle.std.specs.Prelude.{◌≡◌};
 ghost use Rattle.ball_model.specs.Input.{fields};
-ghost use Rattle.ball_model.specs.WorldText.{value_from};
 ghost use Rattle.node.specs.NodeText.{body_length, command_in, lone_command, size_in};
 ghost use Rattle.node.specs.NodeText.{sized_command};
-ghost use Rattle.node.specs.Commands.{most_size};
 
-use itoa::Buffer;
-use world::script::{cut, part};
+use world::script::{cut, number_below, part};
 
 /// Lengths are below it: they have at most 18 digits.
 const MOST: u64 = 1_000_000_000_000_000_000;
 
-/// What a node is to do. After the line of some commands follow so many bytes.
+/// What a node is to do. After the line of some commands bytes follow, as many as it says.
 #[derive(Clone, Copy, Debug, PartialEq, Eq)]
-pub enum Command {
-    /// It tells another partition the batch of its superstep.
+pub(crate) enum Command {
+    /// It sends another partition the batch of its superstep.
     Send { target: u16 },
     /// It takes the batch that the bytes spell.
     Deliver { length: u64 },
@@ -28,16 +25,16 @@ pub enum Command {
     Restart { length: u64 },
     /// It takes over what the checkpoint has that the bytes are.
     Recover { length: u64 },
-    /// It tells what it has.
+    /// It writes what it has.
     Show,
-    /// It tells the sums of its estimates.
+    /// It writes the sums of its estimates.
     Totals,
-    /// It tells the figures of its vertices.
+    /// It writes the figures of its vertices.
     Figures,
 }
 
 /// How many bytes follow the line of a command.
-pub fn length_of(command: Command) -> u64
+pub(crate) fn length_of(command: Command) -> u64
     ensures { result ≡ body_length command }
 {
     match command {
@@ -52,27 +49,11 @@ pub fn length_of(command: Command) -> u64
     }
 }
 
-// The value of digits, or `MOST` if it is not below that.
-fn value(word: &[u8]) -> u64
-    ensures { result ≡ min (value_from 0 word.now) most_size }
-{
-    let mut value = 0u64;
-    for byte in word {
-        value = (value * 10 + u64::from(byte.saturating_sub(b'0'))).min(MOST);
-    }
-    value
-}
-
 /// The length that a word spells.
-pub fn size(word: &[u8]) -> Option<u64>
+pub(crate) fn size(word: &[u8]) -> Option<u64>
     ensures { result ≡ size_in word.now }
 {
-    let value = value(word);
-    if value < MOST && word == Buffer::new().format(value).as_bytes() {
-        Some(value)
-    } else {
-        None
-    }
+    number_below(MOST, word)
 }
 
 // The command of one word.
@@ -116,7 +97,7 @@ fn sized_command(verb: &[u8], word: &[u8]) -> Option<Command>
 }
 
 /// The command that a line says. Between its words is one space.
-pub fn command_of(line: &[u8]) -> Option<Command>
+pub(crate) fn command_of(line: &[u8]) -> Option<Command>
     ensures { result ≡ command_in (fields 32 line.now) }
 {
     let Some((verb, word)) = cut(b' ', line) else {

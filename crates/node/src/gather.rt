@@ -37,7 +37,7 @@ use std::sync::Arc;
 use std::thread::Threads;
 use world::script::cut;
 
-// The length that a line `part L` tells.
+// The length in a line `part L`.
 fn length_in(line: &[u8]) -> Option<u64>
     ensures value { result ≡ part_length line.now }
     ensures spelled { (n : ℕ) → result ≡ Some n → line.now ++ 10 ∷ [] ≡ part_line n }
@@ -61,7 +61,6 @@ fn read_length<R: CountedRead>(
         Consumes (R.remaining reader.old) (R.remaining reader.new) (part_line n)) }
     ensures refused { IfErr result
         (IsNoReplica part.now (R.remaining reader.old) (R.remaining reader.new)) }
-    // Memory is refused only at the first byte of a line.
     ensures memory { result ≡ Err GatherError.Memory →
         ReadsInLine (R.remaining reader.old) (R.remaining reader.new) }
     ensures failed { FailsAs R.failed_calls reader.old reader.new result (Err GatherError.Read) }
@@ -269,8 +268,8 @@ impl<'a, V: Watch> Gathering<'a, V> {
         read_end(reader)
     }
 
-    // Reads the checkpoints of all partitions, and writes their report. The figures are made by at most so many
-    // threads; if 0 are asked for, by all processors.
+    // Reads the checkpoints of all partitions, and writes their report. At most `threads` threads make the figures, or
+    // all processors if that is 0.
     fn gather_parts<T: AllocGlobal + Threads + Sync, R: CountedRead, W: CountedWrite>(
         &self,
         rt: &T,
@@ -282,11 +281,9 @@ impl<'a, V: Watch> Gathering<'a, V> {
         ensures ok { OnOk result (Gathers (job_of self.now.graph.now.graph self.now.plan.now)
             self.now.graph.now.labels (R.remaining reader.old) (R.remaining reader.new)
             (W.contents writer.old) (W.contents writer.new)) }
-        // Which refusal it is.
         ensures refused { IfErr result (IsNoReport
             (job_of self.now.graph.now.graph self.now.plan.now)
             (R.remaining reader.old) (R.remaining reader.new)) }
-        // Nothing was written, or a beginning of the report if memory was refused or a write failed.
         ensures kept { IfErr result (λ e. IsUnwritten e →
             Keeps (W.contents writer.old) (W.contents writer.new)) }
         ensures front { OnErr result (WritesFront
@@ -312,8 +309,8 @@ impl<'a, V: Watch> Gathering<'a, V> {
 /// whole before the next is read; then that nothing follows, and then that all are of the end of one run. Nothing is
 /// written before that. Memory is taken as bytes come, and may be refused at each; if it is refused or a write fails
 /// while the report is written, a beginning of it was written. The watch is called once the job is read, and for each
-/// checkpoint that was read, as for a close that went on to its superstep. The figures are made by at most so many
-/// threads as the options say; if they say 0, by all processors.
+/// checkpoint that was read, as for a close that went on to its superstep. At most as many threads as the options say
+/// make the figures, or all processors if they say 0.
 pub fn gather<T: AllocGlobal + Threads + Sync, R: CountedRead, W: CountedWrite, V: Watch>(
     rt: &T,
     state: RandomState,
@@ -325,16 +322,13 @@ pub fn gather<T: AllocGlobal + Threads + Sync, R: CountedRead, W: CountedWrite, 
     ensures ok { OnOk result (GathersJob (settings_of job.now.options) job.now.counted
         (R.remaining reader.old) (R.remaining reader.new)
         (W.contents writer.old) (W.contents writer.new)) }
-    // Which refusal it is.
     ensures refused { IfErr result (HasNoReport (settings_of job.now.options) job.now.counted
         (R.remaining reader.old) (R.remaining reader.new)) }
-    // Nothing was written, or a beginning of the report if memory was refused or a write failed.
     ensures kept { IfErr result (λ e. IsUnwritten e →
         Keeps (W.contents writer.old) (W.contents writer.new)) }
     ensures front { OnErr result (WritesFrontOfJob (settings_of job.now.options) job.now.counted
         (R.remaining reader.old) (R.remaining reader.new)
         (W.contents writer.old) (W.contents writer.new)) }
-    // A call failed exactly if that is the answer.
     ensures failed { result ≡ Err GatherError.Read →
         RisesByOne (R.failed_calls reader.old) (R.failed_calls reader.new) }
     ensures unread { result ≡ Err (GatherError.Job no_job.Read) →

@@ -18,7 +18,7 @@ const PIECE: usize = 4096;
 
 /// What came of reading a line.
 #[derive(Clone, Copy, Debug, PartialEq, Eq)]
-pub enum Line {
+pub(crate) enum Line {
     /// It was read, and the LF after it.
     Whole,
     /// The input is at its end.
@@ -49,7 +49,7 @@ fn put_byte(line: &mut Vec<u8>, byte: u8) -> Result<(), AllocError>
 }
 
 /// Reads the bytes before the next LF into `line`, which is empty, and the LF. Memory may be refused at the first byte.
-pub fn read_line<R: CountedRead>(reader: &mut R, line: &mut Vec<u8>) -> Line
+pub(crate) fn read_line<R: CountedRead>(reader: &mut R, line: &mut Vec<u8>) -> Line
     requires { line.old.items ≡ [] }
     ensures read { ReadsLine (R.remaining reader.old) (R.remaining reader.new)
         line.new.items result }
@@ -79,7 +79,7 @@ pub fn read_line<R: CountedRead>(reader: &mut R, line: &mut Vec<u8>) -> Line
 
 /// What came of reading a body.
 #[derive(Clone, Copy, Debug, PartialEq, Eq)]
-pub enum Body {
+pub(crate) enum Body {
     /// It was read.
     Whole,
     /// The input ended within it.
@@ -90,7 +90,7 @@ pub enum Body {
     Failed,
 }
 
-// Reads so many bytes, for which memory was refused, and drops them.
+// Reads `size` bytes, for which memory was refused, and drops them.
 fn pass_over<R: CountedRead>(reader: &mut R, size: u64) -> Body
     ensures some { result ≢ Body.Whole }
     ensures memory { result ≡ Body.Memory →
@@ -113,16 +113,15 @@ fn pass_over<R: CountedRead>(reader: &mut R, size: u64) -> Body
     Body::Memory
 }
 
-/// Reads so many bytes into `body`, which is empty. Memory is taken as they come; if it is refused, the rest is read
+/// Reads `size` bytes into `body`, which is empty. Memory is taken as they come; if it is refused, the rest is read
 /// and dropped, so that a body that is cut is answered as such.
-pub fn read_body<R: CountedRead>(reader: &mut R, size: u64, body: &mut Vec<u8>) -> Body
+pub(crate) fn read_body<R: CountedRead>(reader: &mut R, size: u64, body: &mut Vec<u8>) -> Body
     requires { body.old.items ≡ [] }
     ensures whole { result ≡ Body.Whole →
         Consumes (R.remaining reader.old) (R.remaining reader.new) body.new.items }
     ensures length { result ≡ Body.Whole → length body.new.items ≡ size }
     ensures cut { result ≡ Body.Cut →
         CutsBody size (R.remaining reader.old) (R.remaining reader.new) }
-    // Memory is refused only of a body that is all there.
     ensures memory { result ≡ Body.Memory →
         ReadsBody size (R.remaining reader.old) (R.remaining reader.new) }
     ensures failed { result ≡ Body.Failed →

@@ -35,7 +35,7 @@ pub struct JobInput {
     pub counted: bool,
 }
 
-// Gives a reader of edges, which was given nothing yet, the bytes of a section, and tells whether a mark ends it.
+// Gives a reader of edges, which was given nothing yet, the bytes of a section. True: a mark ends it.
 fn give_section<R: CountedRead>(
     alloc: Global,
     reader: &mut R,
@@ -108,7 +108,6 @@ fn read_list<R: CountedRead>(reader: &mut R, list: &mut Vec<u8>) -> Result<(), J
         (R.remaining reader.old) (R.remaining reader.new)) }
     ensures few { OnOk result (length list.new.items ≤ MOST_BYTES) }
     ensures refused { IfErr result (IsUnlisted (R.remaining reader.old)) }
-    // Memory is refused only if more of the list follows, and it is not too long so far.
     ensures memory { result ≡ Err JobInputError.Memory →
         GoesBeyond (length list.new.items) (R.remaining reader.old) }
     ensures room { result ≡ Err JobInputError.Memory → length list.new.items ≤ MOST_BYTES }
@@ -166,7 +165,12 @@ fn plan_for(graph: &Graph, job: &JobInput) -> Result<Plan, JobInputError>
 }
 
 /// A partition's part of a job.
-pub fn part_of(alloc: Global, graph: &Graph, plan: &Plan, p: u16) -> Result<Arc<Part>, AllocError>
+pub(crate) fn part_of(
+    alloc: Global,
+    graph: &Graph,
+    plan: &Plan,
+    p: u16,
+) -> Result<Arc<Part>, AllocError>
     requires job { IsJob (job_of graph.now.graph plan.now) }
     requires below { p < plan.now.parts }
     ensures { IfOk result (λ part. arc_value part ≡ part_of (job_of graph.now.graph plan.now) p) }
@@ -181,7 +185,7 @@ pub fn part_of(alloc: Global, graph: &Graph, plan: &Plan, p: u16) -> Result<Arc<
 /// The edge list is refused as it comes. That no mark is after it is answered once all of it is read, and says a
 /// network; that none is after the list of counted vertices, whatever that says. Then the list is refused, and then the
 /// plan. Memory is taken as bytes come, and may be refused at each.
-pub fn read_job<R: CountedRead>(
+pub(crate) fn read_job<R: CountedRead>(
     alloc: Global,
     state: RandomState,
     job: &JobInput,
@@ -192,10 +196,8 @@ pub fn read_job<R: CountedRead>(
     ensures job { IfOk result (λ all. IsJob (job_of all.0.graph all.1)) }
     ensures count { IfOk result (λ all. HasRecords (settings_of job.now.options)
         (R.remaining reader.old) all.2) }
-    // Which refusal it is.
     ensures refused { IfErr result (IsNoJob (settings_of job.now.options) job.now.counted
         (R.remaining reader.old) (R.remaining reader.new)) }
-    // A call failed exactly if that is the answer.
     ensures failed { result ≡ Err JobInputError.Read →
         RisesByOne (R.failed_calls reader.old) (R.failed_calls reader.new) }
     ensures counted { result ≢ Err JobInputError.Read →

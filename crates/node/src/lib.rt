@@ -19,19 +19,18 @@
 //! they call as they get on.
 #![tactic(auto)]
 
-pub mod answers;
-pub mod command;
+mod answers;
+mod command;
 pub mod error;
 pub mod gather;
-pub mod input;
+mod input;
 pub mod job;
 pub mod laws;
 pub mod limits;
-pub mod own;
+mod own;
 pub mod section;
 pub mod serve;
-pub mod session;
-pub mod show;
+mod session;
 #[cfg(test)]
 mod tests;
 mod watched;

@@ -17,7 +17,7 @@ use edgelist::Part;
 pub const MOST_BYTES: usize = 67_108_864;
 
 /// The most bytes of a batch of a plan: those of one of all vertices of partition 0, which has the most.
-pub fn longest_batch(plan: &Plan) -> u64
+pub(crate) fn longest_batch(plan: &Plan) -> u64
     ensures value { result ≡ greatest_batch plan.now }
     ensures few { result ≤ 2 ^ 43 }
 {
@@ -26,7 +26,7 @@ pub fn longest_batch(plan: &Plan) -> u64
 }
 
 /// The most bytes of a checkpoint of a part: at the last superstep, with the most early batches, each the longest.
-pub fn longest_checkpoint(part: &Part) -> u64
+pub(crate) fn longest_checkpoint(part: &Part) -> u64
     ensures { result ≡ most_checkpoint_bytes part.now part.now.plan.limit }
 {
     let plan = part.plan();
@@ -40,7 +40,7 @@ pub fn longest_checkpoint(part: &Part) -> u64
 }
 
 /// Whether no more bytes are announced after a command than a batch or a checkpoint of the part has at most.
-pub fn is_within(part: &Part, command: Command) -> bool
+pub(crate) fn is_within(part: &Part, command: Command) -> bool
     ensures within { result ≡ true → body_length command ≤ most_body part.now command }
     ensures beyond { result ≡ false → most_body part.now command < body_length command }
 {

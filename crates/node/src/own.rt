@@ -9,8 +9,8 @@ ghost use Rattle.ball_model.specs.Report.{vertex_text};
 ghost use Rattle.ball_model.specs.Streams.{RisesByOne};
 ghost use Rattle.node.specs.NodeText.{figures_text};
 ghost use Rattle.node.specs.Stream.{FailsAs};
-ghost use Rattle.node.specs.Turns.{AppendsOf};
 ghost use Rattle.report.specs.Parts.{true_figures};
+ghost use Rattle.world.specs.Tell.{AppendsOf};
 
 use ball_model::CountedWrite;
 use edgelist::Graph;
@@ -70,7 +70,7 @@ fn tell_vertex<W: CountedWrite>(
 }
 
 /// Writes the lines of a partition's vertices, ascending, of the superstep that its replica has reached.
-pub fn tell_own<W: CountedWrite>(
+pub(crate) fn tell_own<W: CountedWrite>(
     alloc: Global,
     graph: &Graph,
     replica: &Replica,
@@ -79,7 +79,6 @@ pub fn tell_own<W: CountedWrite>(
     requires { replica.now.part.plan.vertices ≡ graph.now.graph.vertices }
     ensures done { OnOk result (AppendsOf replica.now (λ j h. figures_text j graph.now.labels h)
         (W.contents writer.old) (W.contents writer.new)) }
-    // A call failed exactly if that is the answer.
     ensures write { result ≡ Err TellError.Write →
         RisesByOne (W.failed_calls writer.old) (W.failed_calls writer.new) }
     ensures written { result ≢ Err TellError.Write →

@@ -1,7 +1,7 @@
 //! Sections of an input on a stream: one ends at the first line of exactly `%%`, and nothing after that line is read.
 //!
-//! [`next_step`] goes through a section byte by byte, and tells where it ends at a mark. Bytes are taken from the reader
-//! one at a time, so what follows the mark is still there: the reader underneath is to be a buffered one.
+//! [`next_step`] reads a section byte by byte, up to its mark. Bytes are taken from the reader one at a time, so what
+//! follows the mark is still there: the reader underneath is to be a buffered one.
 
 ghost use Rattle.std.specs.Prelude.{◌≡◌, ◌≢◌, ℕ, ◌∷◌, ◌==◌, [], true, false, option_map};
 ghost use Rattle.std.specs.Io.KnownBytes.{Consumes, IsAtEnd, Keeps, prepend_known};
@@ -16,7 +16,7 @@ use ball_model::CountedRead;
 
 /// What came of reading one byte.
 #[derive(Clone, Copy, Debug, PartialEq, Eq)]
-pub enum NextByte {
+pub(crate) enum NextByte {
     /// The byte.
     Byte(u8),
     /// There is none more.
@@ -26,7 +26,7 @@ pub enum NextByte {
 }
 
 /// The next byte of a reader.
-pub fn next_of<R: CountedRead>(reader: &mut R) -> NextByte
+pub(crate) fn next_of<R: CountedRead>(reader: &mut R) -> NextByte
     ensures byte { (b : ℕ) → result ≡ NextByte.Byte b →
         Consumes (R.remaining reader.old) (R.remaining reader.new) (b ∷ []) }
     ensures end { result ≡ NextByte.End → IsAtEnd (R.remaining reader.new) }
@@ -49,7 +49,7 @@ pub fn next_of<R: CountedRead>(reader: &mut R) -> NextByte
 
 /// Where a section is read.
 #[derive(Drop)]
-pub struct Cut {
+pub(crate) struct Cut {
     // a line begins at the next byte
     begins: bool,
     // what was read of the reader, and is next
@@ -59,7 +59,7 @@ pub struct Cut {
 
 impl Cut {
     /// The start of a section.
-    pub fn start() -> Cut
+    pub(crate) fn start() -> Cut
         ensures begins { result.begins ≡ true }
         ensures ahead { result.ahead.items ≡ [] }
     {
@@ -109,8 +109,8 @@ fn is_front(bytes: &[u8]) -> bool
     }
 }
 
-// Reads ahead as long as what was read may be the front of a line of %%, and tells whether no call failed: then it is
-// known whether a mark is there, or the input has ended.
+// Reads ahead as long as what was read may be the front of a line of %%. False: a call failed. Else it is known whether
+// a mark is there, or the input has ended.
 fn look<R: CountedRead>(reader: &mut R, ahead: &mut ArrayVec<u8, 4>) -> bool
     requires { is_front ahead.old.items ≡ true }
     ensures same { Keeps (prepend_known ahead.old.items (R.remaining reader.old))
@@ -136,7 +136,7 @@ fn look<R: CountedRead>(reader: &mut R, ahead: &mut ArrayVec<u8, 4>) -> bool
 
 /// What came of a step through a section.
 #[derive(Clone, Copy, Debug, PartialEq, Eq)]
-pub enum SectionStep {
+pub(crate) enum SectionStep {
     /// The next byte.
     Byte(u8),
     /// A mark was here, and is passed.
@@ -219,7 +219,7 @@ fn step_of<R: CountedRead>(reader: &mut R, begins: bool, ahead: &mut ArrayVec<u8
 }
 
 /// The next byte of a section, or its end. Nothing is read after the end.
-pub fn next_step<R: CountedRead>(reader: &mut R, cut: &mut Cut) -> SectionStep
+pub(crate) fn next_step<R: CountedRead>(reader: &mut R, cut: &mut Cut) -> SectionStep
     ensures byte { (b : ℕ) → result ≡ SectionStep.Byte b → Gives cut.old.begins b
         (prepend_known cut.old.ahead.items (R.remaining reader.old))
         (prepend_known cut.new.ahead.items (R.remaining reader.new)) }

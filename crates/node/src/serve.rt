@@ -31,7 +31,6 @@ use crate::job::{JobInput, part_of, read_job};
 use crate::limits::is_within;
 use crate::own::tell_own;
 use crate::session::{Reply, Session};
-use crate::show::tell_shown;
 use crate::watched::show_close;
 use ball_model::world::WorldError;
 use ball_model::{CountedRead, CountedWrite, NodeId, Plan};
@@ -43,7 +42,7 @@ use report::totals_text;
 use std::alloc::Global;
 use std::hash::RandomState;
 use world::answer::put_refusal;
-use world::tell::{TellError, write_lines};
+use world::tell::{TellError, tell_replica, write_lines};
 
 // Writes the line of what a node says.
 fn tell<W: CountedWrite>(reply: Reply, line: &mut Vec<u8>, writer: &mut W) -> Result<(), TellError>
@@ -85,7 +84,7 @@ fn tell_no_target<W: CountedWrite>(line: &mut Vec<u8>, writer: &mut W) -> Result
     write_lines(writer, line)
 }
 
-// A node tells another partition the batch of its superstep, if there is such a one.
+// A node sends another partition the batch of its superstep, if there is that partition.
 fn answer_send<W: CountedWrite>(
     alloc: Global,
     replica: &Replica,
@@ -201,7 +200,7 @@ fn answer_recover<W: CountedWrite>(
     tell(reply, line, writer)
 }
 
-// A node tells the sums of its estimates.
+// A node writes the sums of its estimates.
 fn answer_totals<W: CountedWrite>(
     alloc: Global,
     replica: &Replica,
@@ -347,7 +346,7 @@ struct Server<'a, V> {
 }
 
 impl<'a, V: Watch> Server<'a, V> {
-    // A node does what a request says, and tells it.
+    // A node does what a request says, and answers it.
     fn answer<W: CountedWrite>(
         &self,
         session: &mut Session,
@@ -373,14 +372,14 @@ impl<'a, V: Watch> Server<'a, V> {
             Command::Recover { .. } => answer_recover(alloc, session, body, line, writer),
             Command::Show => {
                 let part = replica.partition();
-                tell_shown(NodeId { part, replica: 0 }, replica, line, writer)
+                tell_replica(NodeId { part, replica: 0 }, replica, line, writer)
             }
             Command::Totals => answer_totals(alloc, replica, writer),
             Command::Figures => tell_own(alloc, self.graph, replica, writer),
         }
     }
 
-    // Reads a request, does what it says and answers it, and tells whether there was one.
+    // Reads a request, does what it says and answers it. False: there was none.
     fn serve_one<R: CountedRead, W: CountedWrite>(
         &self,
         session: &mut Session,
@@ -432,12 +431,10 @@ impl<'a, V: Watch> Server<'a, V> {
             (R.remaining reader.old) (R.remaining reader.new)
             session.old session.new (W.contents writer.old) (W.contents writer.new)) }
         ensures part { session.new.part ≡ session.old.part }
-        // What was answered before a request that cannot be read stays.
         ensures stopped { IfErr result (λ e. (IsOfMachine e → ⊥) →
             StopsServing self.now.graph.now session.old.part e
             (R.remaining reader.old) (R.remaining reader.new)
             session.old session.new (W.contents writer.old) (W.contents writer.new)) }
-        // Memory is refused only if what was read is requests, and the front of a line or all of a request.
         ensures wanting { result ≡ Err ServeError.Memory →
             StopsWanting session.old.part (R.remaining reader.old) (R.remaining reader.new) }
         ensures read { FailsAs R.failed_calls reader.old reader.new result (Err ServeError.Read) }
@@ -511,23 +508,18 @@ pub fn serve_node<R: CountedRead, W: CountedWrite, V: Watch>(
     ensures served { OnOk result (ServesNode (settings_of job.now.options) job.now.counted part
         (R.remaining reader.old) (R.remaining reader.new)
         (W.contents writer.old) (W.contents writer.new)) }
-    // What was answered before a request that cannot be read stays.
     ensures stopped { (e : Fault) → result ≡ Err (ServeNodeError.Serve e) → (IsOfMachine e → ⊥) →
         StopsNode (settings_of job.now.options) job.now.counted part e
         (R.remaining reader.old) (R.remaining reader.new)
         (W.contents writer.old) (W.contents writer.new) }
-    // After the job memory is refused only if what was read is requests, and the front of a line or all of a request.
     ensures wanting { result ≡ Err (ServeNodeError.Serve ServeError.Memory) →
         WantsNode (settings_of job.now.options) job.now.counted part
         (R.remaining reader.old) (R.remaining reader.new) }
-    // If there is no job nothing is answered.
     ensures jobless { (e : NoJob) → result ≡ Err (ServeNodeError.Job e) →
         Keeps (W.contents writer.old) (W.contents writer.new) }
-    // Which refusal it is.
     ensures refused { (e : NoJob) → result ≡ Err (ServeNodeError.Job e) →
         HasNoNode (settings_of job.now.options) job.now.counted part
         (R.remaining reader.old) (R.remaining reader.new) e }
-    // A call failed exactly if that is the answer.
     ensures read { result ≡ Err (ServeNodeError.Serve ServeError.Read) →
         RisesByOne (R.failed_calls reader.old) (R.failed_calls reader.new) }
     ensures unread { result ≡ Err (ServeNodeError.Job JobInputError.Read) →

@@ -39,7 +39,7 @@ use world::{answer_to_close, answer_to_take};
 
 /// What a node says to a command.
 #[derive(Clone, Copy, Debug, PartialEq, Eq)]
-pub enum Reply {
+pub(crate) enum Reply {
     /// What a world answers to such an event.
     Answered(Answer),
     /// The bytes are no batch of the job's plan.
@@ -50,7 +50,7 @@ pub enum Reply {
 
 /// A node: a replica of its part.
 #[derive(Drop)]
-pub struct Session {
+pub(crate) struct Session {
     part: Arc<Part>,
     replica: Replica,
 }
@@ -69,7 +69,7 @@ impl Model for Session {
 
 impl Session {
     /// A node of the part at superstep 0. The error is that memory was refused.
-    pub fn start(alloc: Global, part: Arc<Part>) -> Result<Session, AllocError>
+    pub(crate) fn start(alloc: Global, part: Arc<Part>) -> Result<Session, AllocError>
         ensures part { IfOk result (λ s. s.part ≡ arc_value part) }
         ensures start { IfOk result (λ s. (j : Job) (p : ℕ) → IsJob j → p < j.plan.parts →
             arc_value part ≡ part_of j p → Has j (start_holding j.plan p) s) }
@@ -80,37 +80,35 @@ impl Session {
     }
 
     /// The part.
-    pub fn part(&self) -> &Part
+    pub(crate) fn part(&self) -> &Part
         ensures { result.now ≡ self.now.part }
     {
         &self.part
     }
 
     /// The replica.
-    pub fn replica(&self) -> &Replica
+    pub(crate) fn replica(&self) -> &Replica
         ensures { result.now ≡ self.now }
     {
         &self.replica
     }
 
     /// Takes the batch that the bytes spell. The error is that memory was refused, and changes nothing.
-    pub fn deliver(&mut self, alloc: Global, bytes: &[u8]) -> Result<Reply, AllocError>
+    pub(crate) fn deliver(&mut self, alloc: Global, bytes: &[u8]) -> Result<Reply, AllocError>
         ensures turned { (j : Job) (p : ℕ) (h : Holding) (name : Name) → Holds j p h self.old →
             IsDelivered j bytes.now name →
             IfOk result (TurnsTo j p (taken_answer (held_take_answer j h name))
             (held_after j h (Take name)) self.new) }
         ensures part { self.new.part ≡ self.old.part }
-        // Which refusal it is if the bytes spell no batch of the plan.
         ensures named { IfOk result (SaysOfBatch self.old.part.plan bytes.now) }
         ensures unread { (e : BatchError) → result ≡ Ok (reply.NoBatch e) → self.new ≡ self.old }
-        // Whichever batch of the plan it is: of which job, and of which partitions.
+        // whatever the job and the partitions of the batch
         ensures answer { (b : BatchValue) → batch_at self.old.part.plan bytes.now ≡ Ok b →
             IfOk result (λ r. r ≡ reply.Answered (taken_answer (take_answer self.old b))) }
         ensures unchanged { (b : BatchValue) → batch_at self.old.part.plan bytes.now ≡ Ok b →
             is_new (take_answer self.old b) ≡ false → self.new ≡ self.old }
         ensures brought { (b : BatchValue) → batch_at self.old.part.plan bytes.now ≡ Ok b →
             IfOk result (λ _. IsBrought b self.old self.new) }
-        // Memory is refused only if the bytes spell a batch of the plan.
         ensures spelled { OnErr result (IsOk (batch_at self.old.part.plan bytes.now)) }
         ensures refused { OnErr result (self.new ≡ self.old) }
     {
@@ -138,7 +136,7 @@ impl Session {
     }
 
     /// Closes the superstep.
-    pub fn close(&mut self) -> Answer
+    pub(crate) fn close(&mut self) -> Answer
         ensures turned { (j : Job) (p : ℕ) (h : Holding) → Holds j p h self.old →
             TurnsTo j p (closed_answer (held_close_answer j h)) (held_after j h Close) self.new
             (reply.Answered result) }
@@ -151,7 +149,7 @@ impl Session {
 
     /// Goes back to the checkpoint that the bytes are, or to the start if there are none. If the bytes are no
     /// checkpoint of the part the replica stays as it was. The error is that memory was refused, and changes nothing.
-    pub fn restart(&mut self, alloc: Global, bytes: &[u8]) -> Result<Reply, AllocError>
+    pub(crate) fn restart(&mut self, alloc: Global, bytes: &[u8]) -> Result<Reply, AllocError>
         ensures anew { (j : Job) (p : ℕ) (h : Holding) → Holds j p h self.old → bytes.now ≡ [] →
             IfOk result (TurnsTo j p (answer.Restarted (start_holding j.plan p).superstep)
             (start_holding j.plan p) self.new) }
@@ -159,18 +157,15 @@ impl Session {
             bytes.now ≢ [] → IsGivenBack j p bytes.now d →
             IfOk result (TurnsTo j p (answer.Restarted d.superstep) d self.new) }
         ensures part { self.new.part ≡ self.old.part }
-        // Which refusal it is if the bytes are no checkpoint of the part.
         ensures named { bytes.now ≢ [] →
             IfOk result (SaysOfCheckpoint self.old.part bytes.now) }
         ensures started { bytes.now ≡ [] → IfOk result IsAnswered }
-        // Whichever checkpoint of the part they are: the replica is what they spell, and its superstep is answered.
         ensures spelled { bytes.now ≢ [] → IfOk result (λ r. IsAnswered r →
             IsReplicaSpelling self.new bytes.now) }
         ensures answer { IfOk result (λ r. IsAnswered r →
             r ≡ reply.Answered (answer.Restarted self.new.superstep)) }
         ensures unread { (e : KeepError) → result ≡ Ok (reply.NoCheckpoint e) →
             self.new ≡ self.old }
-        // Memory is refused only after the checks of the fixed fields.
         ensures front { bytes.now ≢ [] → OnErr result (HasHead self.old.part bytes.now) }
         ensures refused { OnErr result (self.new ≡ self.old) }
     {
@@ -235,22 +230,19 @@ impl Session {
 
     /// Takes over what the checkpoint has that the bytes are. If they are no checkpoint of the part the replica stays
     /// as it was. The error is that memory was refused, and changes nothing.
-    pub fn recover(&mut self, alloc: Global, bytes: &[u8]) -> Result<Reply, AllocError>
+    pub(crate) fn recover(&mut self, alloc: Global, bytes: &[u8]) -> Result<Reply, AllocError>
         ensures turned { (j : Job) (p : ℕ) (h c : Holding) → Holds j p h self.old →
             IsGivenBack j p bytes.now c →
             IfOk result (TurnsTo j p (answer.Merged (join_of h c).superstep) (join_of h c)
             self.new) }
         ensures part { self.new.part ≡ self.old.part }
-        // Which refusal it is if the bytes are no checkpoint of the part.
         ensures named { IfOk result (SaysOfCheckpoint self.old.part bytes.now) }
         ensures unread { (e : KeepError) → result ≡ Ok (reply.NoCheckpoint e) →
             self.new ≡ self.old }
-        // Whichever checkpoint of the part they are: what it spells is taken over, and the superstep is answered.
         ensures taken { IfOk result (λ r. IsAnswered r →
             TakesSpelled bytes.now self.old self.new) }
         ensures answer { IfOk result (λ r. IsAnswered r →
             r ≡ reply.Answered (answer.Merged self.new.superstep)) }
-        // Memory is refused only after the checks of the fixed fields.
         ensures front { OnErr result (HasHead self.old.part bytes.now) }
         ensures refused { OnErr result (self.new ≡ self.old) }
     {
@@ -390,18 +382,15 @@ fn shared(alloc: Global, batch: Batch) -> Result<Arc<Batch>, BatchError>
 }
 
 /// The replica of a checkpoint in memory.
-pub fn read_back(alloc: Global, part: Arc<Part>, bytes: &[u8]) -> Result<Replica, KeepError>
+pub(crate) fn read_back(alloc: Global, part: Arc<Part>, bytes: &[u8]) -> Result<Replica, KeepError>
     ensures part { IfOk result (λ r. r.part ≡ arc_value part) }
     ensures back { (j : Job) (p : ℕ) (h : Holding) → arc_value part ≡ part_of j p →
         IsGivenBack j p bytes.now h → GivesOrWants (Holds j p h) result }
-    // What is read is a spelling of the replica.
     ensures keepable { IfOk result IsKeepable }
     ensures spells { IfOk result (λ r. IsReplicaSpelling r bytes.now) }
-    // Which refusal it is, and when it is none.
     ensures whole { OnOk result (IsNodeCheckpoint (arc_value part) bytes.now) }
     ensures named { IfErr result (λ e. e ≢ KeepError.Memory →
         IsNoCheckpoint (arc_value part) bytes.now e) }
-    // Memory is refused only after the checks of the fixed fields, and only for bytes of the form of a checkpoint.
     ensures front { OnOkOrMemory result (HasHead (arc_value part) bytes.now) }
     ensures form { OnOkOrMemory result (IsOk (sealed_form (arc_value part) bytes.now)) }
 {

@@ -5,8 +5,8 @@ use ball_model::world::Answer;
 use edgelist::Watch;
 use replica::{Replica, Shown};
 
-/// Tells a watch that a replica, the only one of its partition, has gone on to its superstep.
-pub fn show_turn<V: Watch>(replica: &Replica, watch: &V) {
+/// Calls a watch for a replica, the only one of its partition, that has reached its superstep.
+pub(crate) fn show_turn<V: Watch>(replica: &Replica, watch: &V) {
     let superstep = replica.superstep();
     let part = replica.partition();
     let vertices = replica.plan().part_size(part);
@@ -14,8 +14,8 @@ pub fn show_turn<V: Watch>(replica: &Replica, watch: &V) {
     watch.after_close(node, superstep, replica.changed_count(), vertices);
 }
 
-/// Tells a watch so if that is the answer to a close.
-pub fn show_close<V: Watch>(replica: &Replica, answer: Answer, watch: &V) {
+/// Calls it if the answer to a close is that the replica was closed.
+pub(crate) fn show_close<V: Watch>(replica: &Replica, answer: Answer, watch: &V) {
     if let Answer::Closed { .. } = answer {
         show_turn(replica, watch);
     }

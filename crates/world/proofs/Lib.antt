@@ -10,4 +10,5 @@ pub mod OrderLemmas
 pub mod ScriptLemmas
 pub mod AnswerLemmas
 pub mod TellLemmas
+pub mod ToldLemmas
 pub mod ReplayLemmas

@@ -13,7 +13,7 @@ use Rattle.ball_model.specs.declared.world.Event.{Event}
 use Rattle.ball_model.specs.Input.{fields, is_record, with_first_byte}
 use Rattle.ball_model.specs.WorldText.{command_of, events_from, node_from, node_in, number_in, one_command, script_of, two_command, value_from, with_command}
 use Rattle.ball_model.specs.Sections.{longer}
-use Rattle.world.specs.Script.{added, cut_of, fault_line, is_command_or_skipped, most}
+use Rattle.world.specs.Script.{added, cut_of, fault_line, is_command_or_skipped, number_below}
 
 -- ---- cutting
 
@@ -196,32 +196,37 @@ value-more v [] c = refl
 value-more v (x ∷ xs) c = value-more (v * 10 + (x - 48)) xs c
 
 -- and so as far as the digits count
-pub value-step : (xs : List ℕ) (i v d r : ℕ) → i < length xs → v ≡ min (value_from 0 (take i xs)) most → d ≡ slice_index xs i - 48 → r ≡ min (v * 10 + d) most → r ≡ min (value_from 0 (take (i + 1) xs)) most
-value-step xs i v d r lt so_far digit is =
+pub value-step : (bound : ℕ) (xs : List ℕ) (i v d r : ℕ) → i < length xs → v ≡ min (value_from 0 (take i xs)) bound → d ≡ slice_index xs i - 48 → r ≡ min (v * 10 + d) bound → r ≡ min (value_from 0 (take (i + 1) xs)) bound
+value-step bound xs i v d r lt so_far digit is =
     let more : take (suc i) xs ≡ take i xs ++ slice_index xs i ∷ [] = take-suc xs i 0 lt in
     let next : i + 1 ≡ suc i = omega arith in
     let value = value-more 0 (take i xs) (slice_index xs i) in
     rw (next, more, value) (omega (arith, so_far, digit, is))
 
--- a word that a number below the most is printed as
-pub number-is : (word text : List ℕ) (v : ℕ) → v ≡ min (value_from 0 word) most → v < most → bytes_eq word text ≡ true → text ≡ decimal v → Some v ≡ number_in word
-unfolding number_in
-number-is word text v is few same printed =
+-- a word that a number below the bound is printed as
+pub number-is : (bound : ℕ) (word text : List ℕ) (v : ℕ) → v ≡ min (value_from 0 word) bound → v < bound → bytes_eq word text ≡ true → text ≡ decimal v → Some v ≡ number_below bound word
+unfolding number_below
+number-is bound word text v is few same printed =
     let value : value_from 0 word ≡ v = omega (arith, is, few) in
-    rw (value, lt-ltb v (10 ^ 9) few, ← printed, same) refl
+    rw (value, lt-ltb v bound few, ← printed, same) refl
 
 -- a word whose value is too great
-pub number-great : (word : List ℕ) (v : ℕ) → v ≡ min (value_from 0 word) most → most ≤ v → None ≡ number_in word
-unfolding number_in
-number-great word v is many =
-    rw (le-ltb (value_from 0 word) (10 ^ 9) (omega (arith, is, many))) refl
+pub number-great : (bound : ℕ) (word : List ℕ) (v : ℕ) → v ≡ min (value_from 0 word) bound → bound ≤ v → None ≡ number_below bound word
+unfolding number_below
+number-great bound word v is many =
+    rw (le-ltb (value_from 0 word) bound (omega (arith, is, many))) refl
 
 -- a word that is printed otherwise
-pub number-other : (word text : List ℕ) (v : ℕ) → v ≡ min (value_from 0 word) most → v < most → bytes_eq word text ≡ false → text ≡ decimal v → None ≡ number_in word
-unfolding number_in
-number-other word text v is few other printed =
+pub number-other : (bound : ℕ) (word text : List ℕ) (v : ℕ) → v ≡ min (value_from 0 word) bound → v < bound → bytes_eq word text ≡ false → text ≡ decimal v → None ≡ number_below bound word
+unfolding number_below
+number-other bound word text v is few other printed =
     let value : value_from 0 word ≡ v = omega (arith, is, few) in
-    rw (value, lt-ltb v (10 ^ 9) few, ← printed, other) refl
+    rw (value, lt-ltb v bound few, ← printed, other) refl
+
+-- the numbers of scripts
+pub number-in : (word : List ℕ) → number_below (10 ^ 9) word ≡ number_in word
+unfolding number_below number_in
+number-in word = refl
 
 -- ---- faults
 

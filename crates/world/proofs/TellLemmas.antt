@@ -34,7 +34,7 @@ use Rattle.ball_model.proofs.StreamLemmas.{written_both}
 use Rattle.graph.proofs.FeedLemmas.{vertex-within}
 use Rattle.replica.specs.Seen.{IsState}
 use Rattle.ball_model.specs.Streams.{TextWritten}
-use Rattle.world.specs.Tell.{BeginsText, Stopped, Tells, is_shown}
+use Rattle.world.specs.Tell.{BeginsText, Stopped, is_shown}
 
 -- a beginning of a text is one of a longer text
 pub begins-more : (a b : Option (List ℕ)) (text more : List ℕ) → BeginsText a b text → BeginsText a b (text ++ more)
@@ -67,12 +67,6 @@ stopped-after contents failed a b c text more e one two = record {
   failed_one = λ is. subst (λ n. failed c ≡ n + 1) one.counted (two.failed_one is);
   counted = λ other. two.counted other ∙ one.counted;
 }
-
--- a text, and what comes of the one behind it
-pub tells-after : {W : Type 0} (contents : W → Option (List ℕ)) (failed : W → ℕ) (a b c : W) (text more : List ℕ) (r : Result (Unit {0}) TellError) →
-    TextWritten contents failed a b text → Tells contents failed b c more r → Tells contents failed a c (text ++ more) r
-tells-after contents failed a b c text more (Ok u) one two = written_both contents failed a b c text more one two
-tells-after contents failed a b c text more (Err e) one two = stopped-after contents failed a b c text more e one two
 
 -- ---- the vertices of a node
 

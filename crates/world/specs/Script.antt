@@ -1,14 +1,18 @@
--- How a script is read: words cut off one after another, and events added line by line.
-use Rattle.std.specs.Prelude.{ℕ, ◌==◌, Bool, true, List, [], ◌∷◌, ◌++◌, Option, None, Some, option_map, if◌then◌else◌, Result, Ok, Err}
+-- How a script is read: words cut off one after another, numbers, and events added line by line.
+use Rattle.std.specs.Prelude.{ℕ, ◌==◌, ◌&&◌, nat_lt, Bool, true, List, [], ◌∷◌, ◌++◌, Option, None, Some, option_map, if◌then◌else◌, Result, Ok, Err, decimal}
+use Rattle.std.specs.Str.{bytes_eq}
 use Rattle.std.specs.Option.{is_some}
 use Rattle.ball_model.specs.declared.world.Event.{Event}
 use Rattle.ball_model.specs.Input.{fields, is_record}
-use Rattle.ball_model.specs.WorldText.{command_of}
+use Rattle.ball_model.specs.WorldText.{command_of, value_from}
 use Rattle.ball_model.specs.Sections.{longer}
 
--- the numbers of scripts are below it
-abbrev pub most : ℕ
-most = 1000000000
+-- the number that a word spells, which is below a bound and spelled as numbers are printed
+unfoldable pub number_below : ℕ → List ℕ → Option ℕ
+number_below bound word =
+    if nat_lt (value_from 0 word) bound && bytes_eq word (decimal (value_from 0 word))
+    then Some (value_from 0 word)
+    else None
 
 -- what is before the first such byte, and what follows it
 unfoldable pub cut_of : ℕ → List ℕ → Option (List ℕ × List ℕ)

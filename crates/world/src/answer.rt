@@ -122,7 +122,7 @@ pub fn put_refusal(line: &mut Vec<u8>, error: WorldError) -> Result<(), AllocErr
     }
 }
 
-// Adds the line of a message that was sent: its number, its name, and how much it tells.
+// Adds the line of a message that was sent: its number, its name, how many vertices changed, and how many rows it has.
 fn put_sent(
     line: &mut Vec<u8>,
     message: u64,
@@ -243,7 +243,7 @@ fn put_names(line: &mut Vec<u8>, replica: &Replica) -> Result<(), AllocError>
 }
 
 /// Adds the line of a node: its superstep, its verdict, and the names that it holds.
-pub fn put_node(line: &mut Vec<u8>, id: NodeId, replica: &Replica) -> Result<(), AllocError>
+pub(crate) fn put_node(line: &mut Vec<u8>, id: NodeId, replica: &Replica) -> Result<(), AllocError>
     ensures { (j : Job) (h : Holding) → HasHolding j h replica.now →
         OnOk result (line.new.items ≡ line.old.items ++ node_line j id h) }
 {
@@ -301,7 +301,7 @@ fn put_row(line: &mut Vec<u8>, x: u32, tally: Tally, row: &[u8]) -> Result<(), A
 }
 
 /// Adds the line of vertex `x`, which the replica's partition owns.
-pub fn put_vertex(line: &mut Vec<u8>, replica: &Replica, x: u32) -> Result<(), AllocError>
+pub(crate) fn put_vertex(line: &mut Vec<u8>, replica: &Replica, x: u32) -> Result<(), AllocError>
     requires vertex { x < replica.now.part.plan.vertices }
     requires own { x % replica.now.part.plan.parts ≡ replica.now.part.number }
     ensures { (j : Job) (h : Holding) → HasHolding j h replica.now →

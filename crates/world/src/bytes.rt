@@ -1,4 +1,7 @@
 //! A reader of bytes in memory none of whose calls fails.
+//!
+//! A `MemReader` that was told to fail at no call fails at none either. But that is known of the value, and no more once
+//! `csv` has taken it; of this reader the type says so.
 
 ghost use Rattle.std.specs.Prelude.{◌≡◌, IsOk, None, Some};
 ghost use Rattle.std.specs.Io.KnownBytes.{ReadConsumes};

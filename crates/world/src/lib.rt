@@ -1,6 +1,6 @@
 //! A cluster whose events come one at a time, in any order that anyone writes down (Pregel 2010).
 //!
-//! A [`World`] has the nodes of a job: so many replicas of each partition. An [`Event`] is one call at one node, and
+//! A [`World`] has the nodes of a job: some replicas of each partition. An [`Event`] is one call at one node, and
 //! [`World::apply`] answers it: a node sends a message, takes one, closes its superstep, keeps what it has, goes back to
 //! what it kept, is copied, or takes over what a copy has. Messages and copies are numbered from 0 and never go away; a
 //! loss is a message that is never delivered, a repeat one that is delivered again. Messages and checkpoints are bytes.
@@ -18,7 +18,7 @@
 //! world.node(b)                                                 // its replica, at superstep 1
 //! ```
 //!
-//! [`replay::replay`] goes from an edge list and a script, a command on each line, to the text of the answers;
+//! [`replay::replay`] plays a script, a command on each line, over an edge list, and writes the answers;
 //! [`replay::replay_watched`] calls a [`edgelist::Watch`] as it gets on.
 //!
 //! An event is refused ([`WorldError`]) if there is no such node, target, message or copy, or if memory is refused;

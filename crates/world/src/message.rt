@@ -16,7 +16,7 @@ use std::sync::Arc;
 
 /// A message: the bytes of a batch, and the plan that the batch is for.
 #[derive(Drop)]
-pub struct Message {
+pub(crate) struct Message {
     plan: Plan,
     bytes: Vec<u8>,
 }
@@ -33,7 +33,7 @@ impl Model for Message {
 
 impl Message {
     /// The message of a batch. The error is that memory was refused.
-    pub fn spell(alloc: Global, batch: &Batch) -> Result<Message, AllocError>
+    pub(crate) fn spell(alloc: Global, batch: &Batch) -> Result<Message, AllocError>
         ensures { IfOk result (λ m. m ≡ message_of batch.now) }
     {
         let bytes = batch.encode(alloc)?;
@@ -44,7 +44,7 @@ impl Message {
     }
 
     /// The batch that was sent. The error is that memory was refused: what was spelled is read.
-    pub fn read(&self, alloc: Global) -> Result<Arc<Batch>, AllocError>
+    pub(crate) fn read(&self, alloc: Global) -> Result<Arc<Batch>, AllocError>
         ensures { (j : Job) (name : Name) → IsJob j → IsName j.plan name →
             self.now ≡ message_of (true_batch j name) →
             IfOk result (λ b. arc_value b ≡ true_batch j name) }

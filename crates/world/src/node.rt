@@ -28,7 +28,7 @@ use std::sync::Arc;
 
 /// A node: its replica, and its checkpoint.
 #[derive(Drop)]
-pub struct Node {
+pub(crate) struct Node {
     part: Arc<Part>,
     replica: Replica,
     kept: Option<Vec<u8>>,
@@ -49,7 +49,7 @@ impl Model for Node {
 
 impl Node {
     /// A node of the part at superstep 0, which has kept nothing.
-    pub fn start(alloc: Global, part: Arc<Part>) -> Result<Node, AllocError>
+    pub(crate) fn start(alloc: Global, part: Arc<Part>) -> Result<Node, AllocError>
         ensures { IfOk result (λ n. (j : Job) (p : ℕ) → IsJob j → p < j.plan.parts →
             arc_value part ≡ part_of j p → ShowsNode j (start_node j.plan p) n) }
     {
@@ -63,14 +63,14 @@ impl Node {
     }
 
     /// The replica.
-    pub fn replica(&self) -> &Replica
+    pub(crate) fn replica(&self) -> &Replica
         ensures { result.now ≡ self.now.replica }
     {
         &self.replica
     }
 
     /// Takes a batch.
-    pub fn deliver(&mut self, batch: Arc<Batch>) -> Answer
+    pub(crate) fn deliver(&mut self, batch: Arc<Batch>) -> Answer
         ensures { (j : Job) → IsTrueBatch j (arc_value batch) →
             IsName j.plan (arc_value batch).name →
             Turns j (taken_turn j (arc_value batch).name) result self.old self.new }
@@ -81,7 +81,7 @@ impl Node {
     }
 
     /// Closes the superstep.
-    pub fn close(&mut self) -> Answer
+    pub(crate) fn close(&mut self) -> Answer
         ensures { (j : Job) → Turns j (closed_turn j) result self.old self.new }
     {
         let closed = self.replica.close();
@@ -91,7 +91,7 @@ impl Node {
 
     /// Keeps what the node has, in the place of what it kept before. The error is that memory was refused, and changes
     /// nothing.
-    pub fn keep(&mut self, alloc: Global) -> Result<Answer, AllocError>
+    pub(crate) fn keep(&mut self, alloc: Global) -> Result<Answer, AllocError>
         ensures turned { (j : Job) → IfOk result (λ a. Turns j kept_turn a self.old self.new) }
         ensures refused { OnErr result (self.new ≡ self.old) }
     {
@@ -103,8 +103,8 @@ impl Node {
     }
 
     /// Goes back to what the node kept, or to the start. The error is that memory was refused, and changes nothing: the
-    /// replica there was goes only if the other is made.
-    pub fn restart(&mut self, alloc: Global) -> Result<Answer, AllocError>
+    /// old replica is dropped only once the new one is made.
+    pub(crate) fn restart(&mut self, alloc: Global) -> Result<Answer, AllocError>
         ensures turned { (j : Job) →
             IfOk result (λ a. Turns j (restarted_turn j) a self.old self.new) }
         ensures refused { OnErr result (self.new ≡ self.old) }
@@ -142,7 +142,7 @@ impl Node {
     }
 
     /// A copy of what the node has. The error is that memory was refused.
-    pub fn copy(&mut self, alloc: Global) -> Result<Snapshot, AllocError>
+    pub(crate) fn copy(&mut self, alloc: Global) -> Result<Snapshot, AllocError>
         ensures same { IfOk result (λ s. s ≡ self.old.replica) }
         ensures unchanged { self.new ≡ self.old }
     {
@@ -150,7 +150,7 @@ impl Node {
     }
 
     /// Takes over what a copy has. The error is that memory was refused, and changes nothing.
-    pub fn recover(&mut self, alloc: Global, copy: &Snapshot) -> Result<Answer, AllocError>
+    pub(crate) fn recover(&mut self, alloc: Global, copy: &Snapshot) -> Result<Answer, AllocError>
         ensures turned { (j : Job) (c : Holding) → Has j c copy.now →
             IfOk result (λ a. Turns j (merged_turn c) a self.old self.new) }
         ensures refused { OnErr result (self.new ≡ self.old) }

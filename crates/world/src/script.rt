@@ -1,14 +1,15 @@
 //! Scripts: events as lines of words.
 
-ghost use Rattle.std.specs.Prelude.{◌≡◌, ◌<◌, ◌∷◌, [], Ok, IfOk, IfSome, IsOk, OnOk, length};
-ghost use Rattle.std.specs.Prelude.{min, option_map};
+ghost use Rattle.std.specs.Prelude.{◌≡◌, ◌<◌, ◌≤◌, ◌^◌, ◌∷◌, [], Ok, IfOk, IfSome, IsOk, OnOk};
+ghost use Rattle.std.specs.Prelude.{length, min, option_map};
 ghost use Rattle.std.specs.Str.Lines.{lines, strip_carriage_return};
 ghost use Rattle.ball_model.specs.Input.{fields, is_record};
 ghost use Rattle.ball_model.specs.WorldText.{command_of, node_from, node_in, number_in, of_both};
 ghost use Rattle.ball_model.specs.WorldText.{one_command, part_in, replica_in, script_of};
 ghost use Rattle.ball_model.specs.WorldText.{two_command, value_from};
 ghost use Rattle.ball_model.specs.declared.world.Event.TheVariants as event;
-ghost use Rattle.world.specs.Script.{added, cut_of, fault_line, is_command_or_skipped, most};
+ghost use Rattle.world.specs.Script.{added, cut_of, fault_line, is_command_or_skipped};
+ghost use Rattle.world.specs.Script.{number_below};
 
 use ball_model::NodeId;
 use ball_model::world::Event;
@@ -30,27 +31,36 @@ pub fn cut(byte: u8, text: &[u8]) -> Option<(&[u8], &[u8])>
     None
 }
 
-// The value of digits, or `MOST` if it is not below that.
-fn value(word: &[u8]) -> u64
-    ensures { result ≡ min (value_from 0 word.now) most }
+// The value of digits, or the bound if it is not below that.
+fn value_to(bound: u64, word: &[u8]) -> u64
+    requires { bound ≤ 10 ^ 18 }
+    ensures { result ≡ min (value_from 0 word.now) bound }
 {
     let mut value = 0u64;
     for byte in word {
-        value = (value * 10 + u64::from(byte.saturating_sub(b'0'))).min(MOST);
+        value = (value * 10 + u64::from(byte.saturating_sub(b'0'))).min(bound);
     }
     value
 }
 
-// The number that a word spells.
-fn number(word: &[u8]) -> Option<u64>
-    ensures { result ≡ number_in word.now }
+/// The number that a word spells, without needless zeros, if it is below the bound, which is at most 10^18.
+pub fn number_below(bound: u64, word: &[u8]) -> Option<u64>
+    requires { bound ≤ 10 ^ 18 }
+    ensures { result ≡ number_below bound word.now }
 {
-    let value = value(word);
-    if value < MOST && word == Buffer::new().format(value).as_bytes() {
+    let value = value_to(bound, word);
+    if value < bound && word == Buffer::new().format(value).as_bytes() {
         Some(value)
     } else {
         None
     }
+}
+
+// The number that a word of a script spells.
+fn number(word: &[u8]) -> Option<u64>
+    ensures { result ≡ number_in word.now }
+{
+    number_below(MOST, word)
 }
 
 /// The number of a partition.

@@ -10,8 +10,8 @@ use edgelist::{Graph, Part};
 use std::alloc::{AllocError, Global};
 use std::sync::Arc;
 
-/// So many nodes of a part at superstep 0, which share it.
-pub fn start_nodes(alloc: Global, part: Part, replicas: u8) -> Result<Vec<Node>, AllocError>
+/// `replicas` nodes of a part at superstep 0, which share it.
+pub(crate) fn start_nodes(alloc: Global, part: Part, replicas: u8) -> Result<Vec<Node>, AllocError>
     ensures { (j : Job) (p : ℕ) → IsJob j → p < j.plan.parts → part ≡ part_of j p →
         IfOk result (λ nodes. AreStart j p replicas nodes.items) }
 {
@@ -25,8 +25,8 @@ pub fn start_nodes(alloc: Global, part: Part, replicas: u8) -> Result<Vec<Node>,
     Ok(nodes)
 }
 
-/// So many nodes of each partition at superstep 0. The edges are walked over once for the masks of all parts.
-pub fn start_all(
+/// `replicas` nodes of each partition at superstep 0. The edges are walked over once for the masks of all parts.
+pub(crate) fn start_all(
     alloc: Global,
     graph: &Graph,
     plan: &Plan,

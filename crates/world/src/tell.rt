@@ -4,8 +4,6 @@ ghost use Rattle.std.specs.Prelude.{◌≡◌, ◌+◌, ◌*◌, ◌<◌, ◌++�
 ghost use Rattle.std.specs.List.{flat_map};
 ghost use Rattle.ball_model.specs.declared.world.Event.{Event as Happening};
 ghost use Rattle.ball_model.specs.Job.{Job};
-ghost use Rattle.ball_model.specs.Join.{Holding};
-ghost use Rattle.ball_model.specs.Held.{HasHolding};
 ghost use Rattle.ball_model.specs.PlanValue.{part_size};
 ghost use Rattle.ball_model.specs.State.{own_vertices};
 ghost use Rattle.ball_model.specs.World.{World as Defined, node_at, node_of};
@@ -13,7 +11,7 @@ ghost use Rattle.ball_model.specs.WorldText.{node_line, outcome_text};
 ghost use Rattle.ball_model.specs.WorldText.{row_text, show_text, show_unless};
 ghost use Rattle.world.specs.Runs.{is_want};
 ghost use Rattle.world.specs.Shows.{Shows};
-ghost use Rattle.world.specs.Tell.{Tells, is_shown};
+ghost use Rattle.world.specs.Tell.{Tells, TellsOf, is_shown};
 
 use crate::World;
 use crate::answer::{put_answer, put_node, put_refusal, put_vertex};
@@ -66,7 +64,7 @@ pub fn own_vertex(replica: &Replica, i: u32) -> u32
     i * parts + u32::from(replica.partition())
 }
 
-// Tells a vertex of a node.
+// Writes the line of vertex `x`, which the replica's partition owns.
 fn tell_vertex<W: CountedWrite>(
     replica: &Replica,
     x: u32,
@@ -75,23 +73,23 @@ fn tell_vertex<W: CountedWrite>(
 ) -> Result<(), TellError>
     requires vertex { x < replica.now.part.plan.vertices }
     requires own { x % replica.now.part.plan.parts ≡ replica.now.part.number }
-    ensures { (j : Job) (h : Holding) → HasHolding j h replica.now →
-        Tells W.contents W.failed_calls writer.old writer.new (row_text j h.superstep x) result }
+    ensures { TellsOf W.contents W.failed_calls replica.now (λ j h. row_text j h.superstep x)
+        writer.old writer.new result }
 {
     line.clear();
     put_vertex(line, replica, x)?;
     write_lines(writer, line)
 }
 
-// Tells all vertices of a node.
+// Writes the lines of all vertices of a replica's partition.
 fn tell_vertices<W: CountedWrite>(
     replica: &Replica,
     line: &mut Vec<u8>,
     writer: &mut W,
 ) -> Result<(), TellError>
-    ensures { (j : Job) (h : Holding) → HasHolding j h replica.now →
-        Tells W.contents W.failed_calls writer.old writer.new
-        (flat_map (row_text j h.superstep) (own_vertices j h.partition)) result }
+    ensures { TellsOf W.contents W.failed_calls replica.now
+        (λ j h. flat_map (row_text j h.superstep) (own_vertices j h.partition))
+        writer.old writer.new result }
 {
     replica.limits();
     let partition = replica.partition();
@@ -101,36 +99,36 @@ fn tell_vertices<W: CountedWrite>(
     Ok(())
 }
 
-// Tells the line of a node.
+// Writes the line of a node.
 fn tell_head<W: CountedWrite>(
     id: NodeId,
     replica: &Replica,
     line: &mut Vec<u8>,
     writer: &mut W,
 ) -> Result<(), TellError>
-    ensures { (j : Job) (h : Holding) → HasHolding j h replica.now →
-        Tells W.contents W.failed_calls writer.old writer.new (node_line j id h) result }
+    ensures { TellsOf W.contents W.failed_calls replica.now (λ j h. node_line j id h)
+        writer.old writer.new result }
 {
     line.clear();
     put_node(line, id, replica)?;
     write_lines(writer, line)
 }
 
-/// Tells a node: its line, and a line for each of its vertices.
+/// Writes what a node has: its line, and a line for each of its vertices.
 pub fn tell_replica<W: CountedWrite>(
     id: NodeId,
     replica: &Replica,
     line: &mut Vec<u8>,
     writer: &mut W,
 ) -> Result<(), TellError>
-    ensures { (j : Job) (h : Holding) → HasHolding j h replica.now →
-        Tells W.contents W.failed_calls writer.old writer.new (show_text j id h) result }
+    ensures { TellsOf W.contents W.failed_calls replica.now (λ j h. show_text j id h)
+        writer.old writer.new result }
 {
     tell_head(id, replica, line, writer)?;
     tell_vertices(replica, line, writer)
 }
 
-// Tells a node of a world, if there is one.
+// Writes what a node of a world has, if there is one.
 pub(crate) fn tell_node<W: CountedWrite>(
     world: &World,
     id: NodeId,
@@ -172,7 +170,7 @@ fn put_outcome(line: &mut Vec<u8>, outcome: Result<Answer, WorldError>) -> Resul
     }
 }
 
-// Tells what an event came to.
+// Writes the line of what an event came to.
 pub(crate) fn tell_outcome<W: CountedWrite>(
     outcome: Result<Answer, WorldError>,
     line: &mut Vec<u8>,

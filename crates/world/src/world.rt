@@ -49,7 +49,7 @@ impl Model for World {
 }
 
 impl World {
-    /// The world of a job at its start: so many nodes of each partition, each at superstep 0, which have sent, kept
+    /// The world of a job at its start: `replicas` nodes of each partition, each at superstep 0, which have sent, kept
     /// and copied nothing. The error is that memory was refused.
     pub fn new(alloc: Global, graph: &Graph, plan: &Plan, replicas: u8) -> Result<World, AllocError>
         requires { IsJob (job_of graph.now.graph plan.now) }

@@ -4,7 +4,7 @@ use Rattle.ball_model.specs.PlanValue.{mixing_of}
 use Rattle.ball_model.specs.Report.{vertex_text}
 use Rattle.node.specs.NodeText.{figures_text}
 use Rattle.world.proofs.TellLemmas.{first-texts, is-own, own-is}
-use Rattle.node.proofs.OwnLemmas.{of_next, of_none, of_same}
+use Rattle.world.proofs.ToldLemmas.{of_next, of_none, of_same}
 use Rattle.node.proofs.own.tell_own.Goals as goal
 
 pub own_vertex-requires : goal.own_vertex-requires

@@ -2,7 +2,7 @@ use Rattle.std.proofs.Common.{◌≡◌, ◌+◌, ◌*◌}
 use Rattle.ball_model.specs.PlanValue.{mixing_of}
 use Rattle.ball_model.specs.Report.{vertex_text}
 use Rattle.world.proofs.TellLemmas.{first-texts}
-use Rattle.node.specs.Turns.{AppendsOf}
+use Rattle.world.specs.Tell.{AppendsOf}
 use Rattle.node.proofs.own.tell_own.Given as goal
 
 -- the lines of the first vertices were written

@@ -1,7 +1,7 @@
 use Rattle.std.proofs.Common.{◌∙◌}
 use Rattle.ball_model.specs.PlanValue.{mixing_of}
 use Rattle.ball_model.specs.Report.{vertex_text}
-use Rattle.node.proofs.OwnLemmas.{of_told}
+use Rattle.world.proofs.ToldLemmas.{of_told}
 use Rattle.node.proofs.own.tell_vertex.Goals as goal
 
 pub returns-clause-done : goal.returns-clause-done
