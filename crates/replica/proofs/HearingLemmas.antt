@@ -1,3 +1,4 @@
 pub mod Hear
 pub mod Hearing
 pub mod Accumulator
+pub mod Spare

@@ -19,6 +19,7 @@ pub mod StartLemmas
 pub mod SteppingLemmas
 pub mod MergedLemmas
 pub mod TablesLemmas
+pub mod StaleLemmas
 pub mod TalliesLemmas
 pub mod Crossing
 pub mod SavedLemmas

@@ -4,10 +4,9 @@ use Rattle.std.proofs.lemmas.Bool.Decides.{nat_tests}
 use Rattle.std.proofs.lemmas.List.{take_more_set}
 use Rattle.replica.proofs.Names.{AllByRecursion, list_any, filter, range_with_len, cases_eq, cases_lt, and_parts, and_from, or_left, or_right, ne_eqb, ◌⊎◌, eq-eqb, eqb-true, same_lists, get_or_past, get_or_default, append-nil, get_or-set_same, get_or-set_other, length-append, get_or_append_left, get_or-append_right, All, All-push, IsTrue, or_cases, filter-append, map-append, max_each, bytes_eq, Table, PartValue, IsPart}
 use Rattle.registers.specs.Laws.{max_each-commutes, max_each-associates, max_each-repeats}
-use Rattle.ball_model.specs.Table.{pieces}
 pub use Rattle.registers.proofs.RaisedLemmas.{raised-here}
 use Rattle.registers.proofs.RaisedLemmas.{raised-above, raised-append, raised-last, raised_by_more}
-use Rattle.registers.proofs.TableLemmas.{length-pieces, pieces-append, with_all_cells}
+use Rattle.registers.proofs.TableLemmas.{same_table}
 use Rattle.replica.specs.Spread.{touched_at, stands_in, row_after, rows_after, rows_after_all, marked_rows, own_rows}
 use Rattle.std.proofs.lemmas.Nat.{div-mul-add}
 use Rattle.ball_model.proofs.PathLemmas.{any_filter, any_range, range_any}
@@ -17,9 +16,7 @@ use Rattle.replica.proofs.IndexLemmas.Target.{targets-in, targets-none}
 use Rattle.replica.proofs.SpreadLemmas.{length-spread, spread-at, still_marked, to_in, to_out}
 use Rattle.replica.proofs.HeardLemmas.{own_stands}
 use Rattle.replica.specs.Heard.{SpreadsOwn, StayTouched}
-use Rattle.registers.specs.Lending.{with_cells}
-use Rattle.registers.specs.Differ.{room_for}
-use Rattle.replica.specs.Pull.{raised_over, rows_at, told_rows, is_told, pulled_row, ArePulled, CanPullBlock, CanPullOwn, PullsBlock, PullsRows}
+use Rattle.replica.specs.Pull.{raised_over, rows_at, told_rows, is_told, pulled_row, ArePulled, CanPullBlock, CanPullOwn, PullsRows}
 
 -- ---- a row, raised by others
 -- by two others, in either order
@@ -121,10 +118,10 @@ told-no parts p rows marks zs z at = sym (append-nil (told_rows parts p rows mar
 -- ---- rows of a block
 -- and is marked where this has changed it
 pub block_told : (before touched : List Bool) (old rows : List (List ℕ)) (k n : ℕ) (row : List ℕ) (raised : Bool) → k < length rows → k < length touched →
-    get_or rows k [] ≡ get_or old k [] → get_or touched k false ≡ get_or before k false → raised ≡ not (bytes_eq row (get_or old k [])) →
+    get_or touched k false ≡ get_or before k false → raised ≡ not (bytes_eq row (get_or old k [])) →
     ((j : ℕ) → j < k → get_or touched j false ≡ touched_at before old rows j) →
     (j : ℕ) → j < k + 1 → get_or (set touched k (get_or touched k false || raised)) j false ≡ touched_at before old (set rows k row) j
-block_told before touched old rows k n row raised lt inside same still tells told j below =
+block_told before touched old rows k n row raised lt inside still tells told j below =
     grind (arith, nat_tests, get_or-set_same, get_or-set_other)
 
 -- of two lists one behind the other, what holds of each holds of both
@@ -190,19 +187,6 @@ last_can_pull part own marks from up cells front back touched first last can cut
     let total : length cells ≡ length front + length back = ap length cut ∙ length-append front back in
     let both : length touched * w ≡ m * w + n * w = ap (λ k. k * w) size ∙ omega arith in
     record { can = can.can; inside = omega (arith, can.inside, size, next); filled = omega (arith, total, can.filled, both, filled) }
-
-pub halves_pulled : (part : PartValue) (own : Table) (marks : List Bool) (from up : ℕ) (cells front back left right : List ℕ) (touched first last before after : List Bool) →
-    cells ≡ front ++ back → touched ≡ first ++ last → up ≡ from + length first → length front ≡ length first * own.width → length left ≡ length front → length before ≡ length first →
-    PullsBlock part own marks from front left first before → PullsBlock part own marks up back right last after → PullsBlock part own marks from cells (left ++ right) touched (before ++ after)
-halves_pulled part own marks from up cells front back left right touched first last before after all each next filled long still one two =
-    let w = own.width in
-    let m = length first in
-    let n = length last in
-    let size : length touched ≡ m + n = ap length each ∙ length-append first last in
-    let olds : pieces w (length touched) cells ≡ pieces w m front ++ pieces w n back = ap₂ (λ k l. pieces w k l) size all ∙ pieces-append w m n front back filled in
-    let news : pieces w (length touched) (left ++ right) ≡ pieces w m left ++ pieces w n right = ap (λ k. pieces w k (left ++ right)) size ∙ pieces-append w m n left right (long ∙ filled) in
-    let other : PullsBlock part own marks (from + m) back right last after = subst (λ k. PullsBlock part own marks k back right last after) next two in
-    rw (olds, news, each) (pulls_both part own.rows marks from m (pieces w m front) (pieces w n back) (pieces w m left) (pieces w n right) first last before after (length-pieces w m front) refl still one other)
 
 -- ---- what pulling all rows does is what spreading the marked ones does
 -- row i of those that are spread to one after the other
@@ -397,18 +381,12 @@ stay_touched part own marks old new before after long pulls rows was = record {
 }
 
 -- ---- all own rows
-pub own_pulled : (part : PartValue) (own : Table) (marks : List Bool) (table : Table) (cells last : List ℕ) (before after : List Bool) → IsPart part → CanPullOwn part own marks table before →
-    pieces table.width (length table.rows) cells ≡ table.rows → length last ≡ room_for table → length after ≡ length before → PullsBlock part own marks 0 cells last before after →
-    SpreadsOwn (targets_of part) part own.rows marks table (with_cells table last) before after
-own_pulled part own marks table cells last before after is can shown long still pulls =
-    let count : length before ≡ length table.rows = can.each ∙ sym can.count in
-    let new = (with_cells table last).rows in
-    let olds : pieces own.width (length before) cells ≡ table.rows = ap₂ (λ w n. pieces w n cells) (sym can.width) count ∙ shown in
-    let news : pieces own.width (length before) last ≡ new = ap₂ (λ w n. pieces w n last) (sym can.width) count ∙ sym (with_all_cells table last long) in
-    let rows : PullsRows part own.rows marks 0 table.rows new before after = subst (λ l. PullsRows part own.rows marks 0 table.rows l before after) news (subst (λ l. PullsRows part own.rows marks 0 l (pieces own.width (length before) last) before after) olds pulls) in
-    let spread : new ≡ rows_after_all (targets_of part) (own_rows part own.rows marks) table.rows = pulled-is_spread part own.rows marks table.rows new is can.count rows.rows in
+pub own_pulled : (part : PartValue) (own : Table) (marks : List Bool) (table new : Table) (before after : List Bool) → IsPart part → CanPullOwn part own marks table before → new.width ≡ table.width → length after ≡ length before →
+    PullsRows part own.rows marks 0 table.rows new.rows before after → SpreadsOwn (targets_of part) part own.rows marks table new before after
+own_pulled part own marks table new before after is can width still pulls =
+    let spread : new.rows ≡ rows_after_all (targets_of part) (own_rows part own.rows marks) table.rows = pulled-is_spread part own.rows marks table.rows new.rows is can.count pulls.rows in
     record {
-      rows = ap (λ (l : List (List ℕ)). record table { rows = l }) spread;
-      touched = stay_touched part own.rows marks table.rows new before after still rows;
+      rows = same_table new (record table { rows = rows_after_all (targets_of part) (own_rows part own.rows marks) table.rows }) width spread;
+      touched = stay_touched part own.rows marks table.rows new.rows before after still pulls;
       stands = λ j p t heard job lt told index are changed stands. spread ∙ own_stands j p t (length marks) heard part (targets_of part) own.rows table.rows marks job lt told index are changed stands refl;
     }

@@ -9,10 +9,10 @@ use Rattle.replica.specs.Hearing.{CanHear, HearingValue, HearsEarly}
 use Rattle.replica.specs.Index.{targets_of}
 use Rattle.replica.specs.Kept.{AreEarly, AreOfPlan}
 use Rattle.replica.specs.Level.{differences, level_verdict, total_of, weights_of}
-use Rattle.replica.specs.Progress.{ProgressValue}
-use Rattle.replica.specs.Seen.{HoldsTogether, IsProgress, progress_of, state_of}
+use Rattle.replica.specs.Progress.{CanGoOn, ProgressValue}
+use Rattle.replica.specs.Seen.{HasIndex, HoldsTogether, IsProgress, progress_of, state_of}
 use Rattle.replica.specs.Tables.{AreAhead, CanBeStepped, CanGoFurther, CanHearOwn, CanStep, HearsOwn, NextTables, TablesValue}
-use Rattle.replica.proofs.HearingLemmas.Accumulator.{Keeps, can_go_on, fields_are, fields_of, going_keeps, kept_progress}
+use Rattle.replica.proofs.HearingLemmas.Accumulator.{Keeps, NoneSpare, Whole, can_go_on, fields_are, fields_of, going_keeps, kept_progress, none_spare}
 use Rattle.replica.proofs.ChangeLemmas.Advance.{same_early}
 use Rattle.replica.proofs.HearingLemmas.Hearing.{differ_where, hears_quiet}
 use Rattle.replica.proofs.KeptLemmas.Rise.{rise_counters}
@@ -68,8 +68,19 @@ pub record Goes (r : progress.Inside) (v : State) (targets : List (List ℕ)) (m
   pub weights : own ≡ weights_of r.tables.rows.rows
   pub room : (arc_value r.part).plan.limit + 1 ≤ r.tables.room
 
-pub goes : (r : progress.Inside) (k : ProgressValue) (targets : List (List ℕ)) (m : Measure) (weights : List ℕ) → IsProgress r → HoldsTogether k targets m weights → progress_of r ≡ k → level_verdict k.state ≡ verdict.GoOn → Goes r k.state targets m weights
-goes r k targets m weights ok can is going = grind (arith, going_keeps)
+pub goes : (r : progress.Inside) (k : ProgressValue) (targets : List (List ℕ)) (m : Measure) (weights : List ℕ) → IsProgress r → NoneSpare r → HoldsTogether k targets m weights → progress_of r ≡ k → level_verdict k.state ≡ verdict.GoOn → Goes r k.state targets m weights
+goes r k targets m weights ok spare can is going = grind (arith, going_keeps)
+
+-- so it does once stale accumulators are taken back
+pub goes_whole : (r : progress.Inside) (k : ProgressValue) (targets : List (List ℕ)) (m : Measure) (weights : List ℕ) → Whole r k.state (CanGoOn k) → HoldsTogether k targets m weights → level_verdict k.state ≡ verdict.GoOn → Goes r k.state targets m weights
+goes_whole r k targets m weights whole can going =
+    let held : HoldsTogether (progress_of r) targets m weights = record {
+      goes_on = whole.goes_on can.goes_on;
+      index = subst (λ (u : State). HasIndex u targets) (sym whole.same) can.index;
+      measure = can.measure ∙ ap (λ (u : State). measure_of u.part.plan) (sym whole.same);
+      weights = can.weights ∙ ap (λ (u : State). weights_of u.rows) (sym whole.same);
+    } in
+    subst (λ (u : State). Goes r u targets m weights) whole.same (goes r (progress_of r) targets m weights whole.limits whole.spare held refl (ap level_verdict whole.same ∙ going))
 
 pub can_hear_own : (r : progress.Inside) (v : State) (targets : List (List ℕ)) (m : Measure) (weights : List ℕ) → Goes r v targets m weights → CanHearOwn (arc_value r.part) targets r.tables r.hearing
 can_hear_own r v targets m weights g = search (arith, inside_of)
@@ -131,13 +142,14 @@ advanced r v plan targets m b own quiet next before weights left g same heard st
       table = hears.table s.part.plan.parts k.state.early.table;
     } in
     let whole : fields_of after ≡ state_of after = fields_are after made.hears.rise.count in
+    let spare : NoneSpare r = none_spare r g.limits k.kept.count in
     record {
       limits = kept_progress after (state_next s (fields_of after) k.state made g.below) width
           (hears.also.width ∙ ap (λ (t : Table). t.width) step.quiet.accumulated ∙ width)
-          (hears.also.touched b.rows.rows step.quiet.kept);
+          (hears.also.touched b.rows.rows step.quiet.kept) spare;
       advances = subst (λ (u : State). Advances u (state_of after)) k.view_is (subst (λ (w : State). Advances s w) whole made);
       goes_on = record {
-        goes_on = can_go_on after made.hears.rise.count (rw step.room g.room);
+        goes_on = can_go_on after spare made.hears.rise.count (rw step.room g.room);
         index = inl g.index;
         measure = g.measure;
         weights = step.weights;

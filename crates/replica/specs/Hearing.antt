@@ -1,5 +1,5 @@
 -- What a replica has heard of its superstep, and what becomes of it as batches are heard.
-use Rattle.std.specs.Prelude.{◌≡◌, ℕ, ◌+◌, ◌%◌, ◌^◌, ◌⊎◌, Bool, false, not, ◌||◌, ◌&&◌, ◌==◌, List, [], ◌∷◌, length, map, replicate, Option, None, is_some, IfSome, slice_index_or, if◌then◌else◌}
+use Rattle.std.specs.Prelude.{◌≡◌, ℕ, ◌+◌, ◌%◌, ◌^◌, ◌⊎◌, Bool, true, false, not, ◌||◌, ◌&&◌, ◌==◌, List, [], ◌∷◌, length, map, replicate, Option, None, is_some, IfSome, IsTrue, slice_index_or, if◌then◌else◌}
 use Rattle.std.specs.List.{list_any, range_with_len}
 use Rattle.ball_model.specs.Accumulated.{accumulated_of, accumulated_row}
 use Rattle.ball_model.specs.Batches.{BatchValue, true_batch, changed_count}
@@ -8,6 +8,7 @@ use Rattle.ball_model.specs.Job.{Job, IsJob, part_of}
 use Rattle.ball_model.specs.PlanValue.{PlanValue, mixing_of, most_parts}
 use Rattle.ball_model.specs.State.{State, early_at, is_heard, heard_changes}
 use Rattle.ball_model.specs.Table.{Table}
+use Rattle.registers.specs.Differ.{DifferWhere}
 use Rattle.replica.specs.Ahead.{IsTable}
 use Rattle.replica.specs.Heard.{StayTouched}
 use Rattle.replica.specs.Index.{targets_of}
@@ -71,9 +72,12 @@ accumulators_of rows (own ∷ rest) = own ∷ rest
 abbrev pub KeepsAll : List (List ℕ) → HearingValue → Type 0
 KeepsAll rows a = AreTouched rows a.accumulated.rows a.touched
 
--- or none is kept
+-- none is kept
+abbrev pub KeepsNone : HearingValue → Type 0
+KeepsNone a = (a.accumulated.rows ≡ []) × (a.touched ≡ [])
+
 abbrev pub KeepsAllOrNone : List (List ℕ) → HearingValue → Type 0
-KeepsAllOrNone rows a = KeepsAll rows a ⊎ ((a.accumulated.rows ≡ []) × (a.touched ≡ []))
+KeepsAllOrNone rows a = KeepsAll rows a ⊎ KeepsNone a
 
 -- there are as many accumulators as rows, and as others
 pub record CanJoin (own theirs : Table) (a : HearingValue) : Type 0 where
@@ -117,6 +121,55 @@ pub record SaysSame (rows : List (List ℕ)) (a b : HearingValue) : Type 0 where
   pub accumulated : accumulators_of rows b.accumulated.rows
       ≡ accumulators_of rows a.accumulated.rows
   pub kept : KeepsAllOrNone rows b
+
+-- ---- accumulators that are stale
+
+-- the accumulators, or the rows if those are stale: they are to become these
+abbrev pub fresh_table : Bool → Table → Table → Table
+fresh_table stale rows accumulated = if stale then rows else accumulated
+
+-- what is heard, with accumulators that have become the rows if they were stale
+abbrev pub caught_up : Bool → Table → HearingValue → HearingValue
+caught_up stale rows a = record a { accumulated = fresh_table stale rows a.accumulated }
+
+-- accumulators that are stale: they differ from the rows where these are marked alone, and once they are the rows none
+-- differs
+pub record IsStale (rows : Table) (marks : List Bool) (a : HearingValue) : Type 0 where
+  pub differ : DifferWhere marks a.accumulated rows
+  pub kept : KeepsAll rows.rows (caught_up true rows a)
+
+-- stale ones are kept in the place of a's, or none is
+abbrev pub KeepsStale : Table → List Bool → HearingValue → HearingValue → Type 0
+KeepsStale rows marks a spare = KeepsNone spare ⊎ (KeepsNone a × IsStale rows marks spare)
+
+-- beside these rows a keeps accumulators, or there are stale ones in their place, or none
+pub record IsSpare (rows : Table) (marks : List Bool) (a spare : HearingValue) : Type 0 where
+  pub width : a.accumulated.width ≡ rows.width
+  pub spare_width : spare.accumulated.width ≡ rows.width
+  pub kept : KeepsAllOrNone rows.rows a
+  pub beside : KeepsStale rows marks a spare
+
+-- b says what a says, with the accumulators of both, and nothing is left beside it
+pub record TakesBack (rows : Table) (a spare b left : HearingValue) : Type 0 where
+  pub same : SaysSame rows.rows a b
+  pub count : length b.accumulated.rows ≡ length a.accumulated.rows + length spare.accumulated.rows
+  pub width : left.accumulated.width ≡ rows.width
+  pub none : KeepsNone left
+
+-- what is lent says what a says, once it is caught up if it is stale, and nothing is heard in b, where none is kept
+pub record Lends (rows : Table) (marks : List Bool) (a spare : HearingValue) (stale : Bool)
+    (b lent : HearingValue) : Type 0 where
+  pub takes : TakesBack rows a spare (caught_up stale rows lent) b
+  pub differ : IsTrue stale → DifferWhere marks lent.accumulated rows
+  pub heard : b.heard ≡ replicate most_parts false
+  pub change : b.change ≡ false
+
+-- the accumulators are stale, and nothing is heard yet beside these rows
+pub record BeginsStale (rows : Table) (marks : List Bool) (a : HearingValue) : Type 0 where
+  pub stale : IsStale rows marks a
+  pub quiet : IsQuiet rows (caught_up true rows a)
+
+-- ---- accumulators that were dropped
 
 -- the accumulators of these rows can be kept again, if they were dropped
 pub record CanRenew (rows : Table) (a : HearingValue) : Type 0 where

@@ -3,7 +3,7 @@ use Rattle.std.specs.Prelude.{◌≡◌, ℕ, ◌+◌, ◌*◌, ◌/◌, ◌%◌
 use Rattle.std.specs.List.{All, filter}
 use Rattle.std.specs.Str.{bytes_eq}
 use Rattle.ball_model.specs.Job.{PartValue}
-use Rattle.ball_model.specs.Table.{Table, pieces}
+use Rattle.ball_model.specs.Table.{Table}
 unfoldable pub use Rattle.registers.specs.Raised.{raised_over}
 pub use Rattle.registers.specs.Raised.{rows_at}
 use Rattle.registers.specs.Shape.{piece_at, with_piece}
@@ -81,13 +81,6 @@ pub record CanPullBlock (part : PartValue) (own : Table) (marks : List Bool) (fr
   pub can : CanPull part own marks
   pub inside : from + length touched ≤ length part.preds
   pub filled : length cells ≡ length touched * own.width
-
--- these rows were pulled
-abbrev pub PullsBlock : PartValue → Table → List Bool → ℕ → List ℕ → List ℕ →
-    List Bool → List Bool → Type 0
-PullsBlock part own marks from old new before after =
-    PullsRows part own.rows marks from (pieces own.width (length before) old)
-    (pieces own.width (length before) new) before after
 
 -- all own rows can be pulled
 pub record CanPullOwn (part : PartValue) (own : Table) (marks : List Bool) (rows : Table)

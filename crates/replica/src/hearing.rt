@@ -1,10 +1,15 @@
 //! What is heard of a superstep.
 
-ghost use Rattle.std.specs.Prelude.{◌≡◌, ℕ, ◌||◌, List, length, Some, IfOk, OnOk, OnErr};
+ghost use Rattle.std.specs.Prelude.{◌≡◌, ℕ, ◌||◌, Bool, false, List, [], length, replicate, Some};
+ghost use Rattle.std.specs.Prelude.{IsTrue, IfOk, OnOk, OnErr};
+ghost use Rattle.ball_model.specs.PlanValue.{most_parts};
+ghost use Rattle.ball_model.specs.Table.{Table};
+ghost use Rattle.registers.specs.Differ.{DifferWhere};
 ghost use Rattle.registers.specs.Joined.{maximum_of_rows, union_of_flags};
-ghost use Rattle.replica.specs.Hearing.{BeginsSuperstep, CanFill, CanHear, CanJoin};
+ghost use Rattle.replica.specs.Hearing.{BeginsStale, BeginsSuperstep, CanFill, CanHear, CanJoin};
 ghost use Rattle.replica.specs.Hearing.{CanRenew, Renews, Fills, HearsAlso, HearsEarly, IsQuiet};
-ghost use Rattle.replica.specs.Hearing.{HearsByIndex, KeepsAllOrNone, SaysSame};
+ghost use Rattle.replica.specs.Hearing.{HearsByIndex, IsSpare, KeepsAllOrNone, Lends, SaysSame};
+ghost use Rattle.replica.specs.Hearing.{TakesBack, fresh_table};
 ghost use Rattle.replica.specs.Hearing.{accumulators_of, batch_by};
 ghost use Rattle.replica.specs.Level.{differences};
 ghost use Rattle.replica.specs.Tables.{CanHearOwn, HearsOwn};
@@ -20,9 +25,10 @@ use crate::walk::Walk;
 use ball_model::Plan;
 use batches::Batch;
 use graph::Part;
-use registers::{Join, Rows, SourceMask};
+use registers::{Join, Rows, SourceMask, next_marked, take_over};
 use std::alloc::{AllocError, Global};
 use std::marker::Model;
+use std::mem;
 use std::thread::Threads;
 
 /// Of which sources a superstep's batches are heard, and what is accumulated for each row.
@@ -91,6 +97,94 @@ impl Hearing {
             accumulated,
             touched,
         }
+    }
+
+    /// Nothing is heard beside rows of this width, and no accumulators are kept. It takes no memory.
+    pub fn bare(alloc: Global, rows: &Rows) -> Result<Hearing, AllocError>
+        ensures { IfOk result (IsQuiet (record { width = rows.now.width; rows = [] })) }
+    {
+        Hearing::quiet(alloc, Rows::fixed(alloc, 0, rows.width() as u16)?)
+    }
+
+    /// What is heard goes to the accumulators that are spare, or is lent with those that are kept here if none is. Nothing
+    /// is heard here then, and none is kept. The answer is whether those that are lent are stale.
+    pub fn lend(&mut self, spare: &mut Hearing) -> bool
+        ensures { (rows : Table) (marks : List Bool) → IsSpare rows marks self.old spare.old →
+            Lends rows marks self.old spare.old result self.new spare.new }
+    {
+        if spare.accumulated.len() == 0 {
+            mem::swap(self, spare);
+            self.forget();
+            return false;
+        }
+        spare.heard = self.heard;
+        spare.change = self.change;
+        self.forget();
+        true
+    }
+
+    // Nothing is heard.
+    fn forget(&mut self)
+        ensures { self.new ≡
+            record self.old { heard = replicate most_parts false; change = false } }
+    {
+        let Hearing { heard, change, .. } = self;
+        *heard = SourceMask::empty();
+        *change = false;
+    }
+
+    /// Accumulators that are spare are kept here again, each as its row is. It takes no memory, and time in proportion to
+    /// the rows that are marked.
+    pub fn take_back(&mut self, spare: &mut Hearing, tables: &Tables)
+        requires { IsSpare tables.now.rows tables.now.marks self.old spare.old }
+        ensures { TakesBack tables.now.rows self.old spare.old self.new spare.new }
+    {
+        if spare.accumulated.len() != 0 {
+            catch_up(&mut spare.accumulated, tables.rows(), tables.marks());
+            self.exchange(spare);
+        }
+    }
+
+    /// Takes them back as [`Hearing::take_back`] does, by 2^depth threads.
+    pub fn take_back_by<R: Threads + Sync>(
+        &mut self,
+        rt: &R,
+        depth: u32,
+        spare: &mut Hearing,
+        tables: &Tables,
+    )
+        requires { IsSpare tables.now.rows tables.now.marks self.old spare.old }
+        ensures { TakesBack tables.now.rows self.old spare.old self.new spare.new }
+    {
+        if spare.accumulated.len() != 0 {
+            let accumulated = &mut spare.accumulated;
+            take_over(rt, depth, accumulated, tables.rows(), tables.marks());
+            self.exchange(spare);
+        }
+    }
+
+    // What is heard is heard beside the accumulators of another one, which are kept here then.
+    fn exchange(&mut self, other: &mut Hearing)
+        ensures own { self.new ≡
+            record other.old { heard = self.old.heard; change = self.old.change } }
+        ensures other { other.new ≡ self.old }
+    {
+        other.heard = self.heard;
+        other.change = self.change;
+        mem::swap(self, other);
+    }
+
+    /// The accumulators become the rows, without a copy of one: what was there before, which differs from these where they
+    /// are marked alone, is kept as accumulators that are stale.
+    pub fn change_places(&mut self, rows: &mut Relay<Rows>, marks: &mut [bool])
+        requires count { length marks.old ≡ length self.old.accumulated.rows }
+        requires differ { DifferWhere self.old.touched rows.old self.old.accumulated }
+        ensures rows { rows.new ≡ self.old.accumulated }
+        ensures marks { marks.new ≡ self.old.touched }
+        ensures begins { BeginsStale rows.new marks.new self.new }
+    {
+        rows.change_places(&mut self.accumulated, &self.touched);
+        self.begin(marks);
     }
 
     /// Which sources are heard.
@@ -193,11 +287,15 @@ impl Hearing {
         tallies: &mut Relay<Tallies>,
         weights: &mut [u64],
     ) -> u128
-        requires { CanWalk walk.now.estimator.now walk.now.t walk.now.pull.part.now
-            walk.now.pull.rows.now walk.now.pull.marks.now self.old.accumulated
+        requires can { CanWalk walk.now.estimator.now walk.now.t walk.now.pull.part.now
+            walk.now.pull.rows.now walk.now.pull.marks.now
+            (fresh_table walk.now.stale walk.now.pull.rows.now self.old.accumulated)
             self.old.touched weights.old tallies.old }
+        requires stale { IsTrue walk.now.stale → DifferWhere walk.now.pull.marks.now
+            self.old.accumulated walk.now.pull.rows.now }
         ensures walks { Walks walk.now.estimator.now walk.now.t walk.now.pull.part.now
-            walk.now.pull.rows.now walk.now.pull.marks.now self.old.accumulated
+            walk.now.pull.rows.now walk.now.pull.marks.now
+            (fresh_table walk.now.stale walk.now.pull.rows.now self.old.accumulated)
             self.new.accumulated self.old.touched self.new.touched tallies.old tallies.new
             weights.new result }
         ensures heard { self.new.heard ≡ self.old.heard }
@@ -310,6 +408,18 @@ pub fn differences(alloc: Global, rows: &Rows, accumulated: &Rows) -> Result<Vec
     let mut touched = vec![in alloc; false; rows.len()]?;
     level::mark_differences(rows, accumulated, &mut touched);
     Ok(touched)
+}
+
+// Each marked row becomes that of `ahead`, from which no other one differs.
+fn catch_up(rows: &mut Rows, ahead: &Rows, marks: &[bool])
+    requires { DifferWhere marks.now rows.old ahead.now }
+    ensures { rows.new ≡ ahead.now }
+{
+    let mut i = next_marked(marks, 0);
+    while i < marks.len() {
+        rows.put(i, ahead.row(i));
+        i = next_marked(marks, i + 1);
+    }
 }
 
 // A copy of the rows, in a buffer of its own.

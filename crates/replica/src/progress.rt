@@ -27,6 +27,9 @@ pub struct Progress {
     pub(crate) superstep: u32,
     pub(crate) tables: Tables,
     pub(crate) hearing: Hearing,
+    // accumulators that are stale, of which `hearing` keeps none then: they differ from the rows where these are marked
+    // alone
+    pub(crate) spare: Hearing,
     pub(crate) early: Early,
 }
 
@@ -50,6 +53,7 @@ impl Drop for Progress {
             superstep: _,
             tables: _,
             hearing: _,
+            spare: _,
             early: _,
         } = self;
     }

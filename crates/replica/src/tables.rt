@@ -1,10 +1,11 @@
 //! What a replica has for each vertex, and the sums of its estimates.
 
-ghost use Rattle.std.specs.Prelude.{◌≡◌, ◌≤◌, length, map, IfOk};
+ghost use Rattle.std.specs.Prelude.{◌≡◌, ◌≤◌, true, length, map, IfOk, IsTrue};
 ghost use Rattle.std.specs.Vec.{vec_capacity};
 ghost use Rattle.ball_model.specs.PlanValue.{measure_of};
 ghost use Rattle.figures.specs.Values.{value_of};
-ghost use Rattle.replica.specs.Index.{targets_of};
+ghost use Rattle.registers.specs.Differ.{DifferWhere};
+ghost use Rattle.replica.specs.Hearing.{IsStale, caught_up};
 ghost use Rattle.replica.specs.Tables.{CanGoFurther, GoFurther};
 ghost use Rattle.replica.specs.Tables.{AreFirst, AreRefilled, CanStep, HasRoomFor, NextTables};
 
@@ -12,7 +13,6 @@ use crate::hearing::Hearing;
 use crate::level::{Closing, Step, Team};
 use crate::pull::{Pull, are_many, halvings, halvings_for};
 use crate::relay::{Relay, Tallies};
-use crate::targets::Targets;
 use crate::walk::Walk;
 use crate::{level, start};
 use figures::{Estimator, Tally};
@@ -172,67 +172,50 @@ impl Tables {
         hearing.begin(&mut self.marks);
     }
 
-    /// Hears what changed in the own partition and goes on, as [`Hearing::hear_own`] and [`Tables::next`] do one after the
-    /// other, by a team where it is worth it: in one walk if many rows are marked.
-    pub fn hear_and_go_on<'a, R: Threads + Sync>(
-        &mut self,
-        team: &Team<'_, R>,
-        targets: &Targets,
-        part: &'a Part,
-        closing: &Closing<'a>,
-        hearing: &mut Hearing,
-        weights: &mut [u64],
-    )
-        requires index { targets.now ≡ targets_of part.now }
-        requires can { CanGoFurther part.now closing.now.estimator.now closing.now.t self.old
-            hearing.old weights.old }
-        ensures { GoFurther part.now closing.now.estimator.now closing.now.t self.old self.new
-            hearing.old hearing.new weights.new }
-    {
-        let (parts, width) = (part.plan().parts(), self.rows().width());
-        if are_many(team, parts, width, self.marks()) {
-            self.walk(team, part, closing, hearing, weights);
-        } else {
-            hearing.hear_own(targets, part, self);
-            self.next_by(team, closing, hearing, weights);
-        }
+    /// Whether so many rows changed that a team takes less time to walk over all of them.
+    pub fn are_walked<R: Threads>(&self, team: &Team<'_, R>, part: &Part) -> bool {
+        are_many(team, part.plan().parts(), self.rows().width(), self.marks())
     }
 
-    // Does so in one walk: accumulators are pulled and figures follow. Then the rows that changed are taken over.
-    fn walk<'a, R: Threads + Sync>(
+    /// Hears what changed in the own partition and goes on, as [`Hearing::hear_own`] and [`Tables::next`] do one after the
+    /// other, in one walk by a team: accumulators, which may be stale, are pulled, and figures follow. Then these are the
+    /// rows, and what the rows were is kept in their place, stale.
+    pub fn walk<'a, R: Threads + Sync>(
         &mut self,
         team: &Team<'_, R>,
         part: &'a Part,
         closing: &Closing<'a>,
+        stale: bool,
         hearing: &mut Hearing,
         weights: &mut [u64],
     )
-        requires { CanGoFurther part.now closing.now.estimator.now closing.now.t self.old
-            hearing.old weights.old }
-        ensures { GoFurther part.now closing.now.estimator.now closing.now.t self.old self.new
-            hearing.old hearing.new weights.new }
+        requires can { CanGoFurther part.now closing.now.estimator.now closing.now.t self.old
+            (caught_up stale self.old.rows hearing.old) weights.old }
+        requires stale { IsTrue stale →
+            DifferWhere self.old.marks hearing.old.accumulated self.old.rows }
+        ensures further { GoFurther part.now closing.now.estimator.now closing.now.t self.old
+            self.new (caught_up stale self.old.rows hearing.old)
+            (caught_up true self.new.rows hearing.new) weights.new }
+        ensures stale { IsStale self.new.rows self.new.marks hearing.new }
     {
         let last = self.sums[closing.t as usize];
         let rows = self.rows.get();
-        let width = rows.width();
         let pull = Pull {
             part,
             rows,
             marks: &self.marks,
-            depth: halvings(team, width, &self.marks),
+            depth: halvings(team, rows.width(), &self.marks),
         };
         let walk = Walk {
             pull,
             estimator: closing.estimator,
             t: closing.t + 1,
+            stale,
         };
         let gain = hearing.hear_and_step(team.rt, &walk, &mut self.tallies, weights);
         let total = last + gain;
         self.sums.push_reserved(total);
-        let (ahead, marks) = (hearing.ahead(), hearing.touched());
-        let depth = halvings_for(team, width, marks);
-        self.rows.go_on_by(team.rt, depth, ahead, marks);
-        hearing.begin(&mut self.marks);
+        hearing.change_places(&mut self.rows, &mut self.marks);
     }
 
     /// A copy of the tables: rows and figures are shared, the rest is copied, with no room for later sums.

@@ -1,6 +1,6 @@
 -- What is heard of a superstep, and the accumulators that are kept of it, beside the rows or none.
-use Rattle.std.proofs.Common.{◌≡◌, ℕ, ◌+◌, ◌<◌, Bool, false, List, [], length, get_or, replicate, ap, sym, ◌∙◌, subst, arith, ◌⊎◌}
-use Rattle.replica.proofs.Names.{common_steps, Option, list_any, same_lists, get_or_default, get_or-map-range_with_len, false_from_ne_true, BatchValue, PlanValue, early_at, Table, list_any_at}
+use Rattle.std.proofs.Common.{◌≡◌, ℕ, ◌+◌, ◌<◌, Bool, false, List, [], length, get_or, replicate, refl, ap, sym, ◌∙◌, subst, arith, ◌⊎◌}
+use Rattle.replica.proofs.Names.{common_steps, None, Option, list_any, same_lists, get_or_default, get_or-map-range_with_len, false_from_ne_true, BatchValue, PlanValue, early_at, Table, list_any_at}
 use Rattle.std.proofs.lemmas.Bool.{both_ways}
 use Rattle.registers.specs.Differ.{DifferWhere}
 use Rattle.registers.specs.Laws.{max_each-repeats}
@@ -74,6 +74,19 @@ bare_same a b rows none kept heard change accumulated touched =
     grind (arith, none_kept, all_kept, unmarked_same)
 
 -- ---- hearing
+
+-- where nothing is told, nothing more is heard
+pub silent : (log2m : ℕ) (targets : List (List ℕ)) (told : ℕ → Option BatchValue) (a : HearingValue) → HearsByIndex log2m targets a → ((q : ℕ) → told q ≡ None) → HearsAlso log2m targets told a a
+silent log2m targets told a ready none = record {
+  hears = record {
+    count = refl;
+    sources = λ q. rw (none q) (grind arith);
+    rise = record { count = refl; rises = λ i lt. record { row = ready.counters.row i lt; grew = λ k below. omega arith } };
+    stands = λ j p t job index told is. is;
+  };
+  width = refl;
+  touched = λ rows are. are;
+}
 
 -- one source more of those below a number
 pub also_next : (log2m : ℕ) (targets : List (List ℕ)) (told : ℕ → Option BatchValue) (n : ℕ) (a b c : HearingValue) → HearsByIndex log2m targets a → HearsAlso log2m targets (batches_below told n) a b → HearsAlso log2m targets (batch_by n (told n)) b c →

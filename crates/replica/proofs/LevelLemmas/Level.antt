@@ -1,5 +1,5 @@
 -- A replica that stands for its content and holds its level has what the next superstep is made of.
-use Rattle.std.proofs.Common.{◌≡◌, ℕ, ◌+◌, ◌%◌, ◌<◌, Bool, true, false, not, ◌&&◌, ◌||◌, ◌==◌, List, [], length, get_or, refl, ap, arith, ◌∙◌}
+use Rattle.std.proofs.Common.{◌≡◌, ℕ, ◌+◌, ◌%◌, ◌<◌, Bool, true, false, not, ◌&&◌, ◌||◌, ◌==◌, List, [], length, get_or, refl, ap, sym, arith, ◌∙◌}
 use Rattle.replica.proofs.Names.{Option, None, length-map, same_lists, length-map-range_with_len, get_or-map-range_with_len, mixing_of, part_size, Job, PartValue, part_of, BatchValue, missing_of, State, StandsFor, content_of, rows_of, marks_of, holds_in, is_heard, eq-eqb, not-false, ne_eqb, bytes_eq, ball_counter}
 use Rattle.ball_model.specs.Accumulated.{accumulated_of}
 use Rattle.ball_model.specs.Change.{changed_at}
@@ -104,3 +104,15 @@ differing_from rows accumulated marks n is size =
 -- rows differ nowhere from themselves
 pub none_touched : (rows : List (List ℕ)) (marks : List Bool) → length marks ≡ length rows → ((i : ℕ) → get_or marks i false ≡ false) → AreTouched rows rows marks
 none_touched rows marks count off = grind (arith, max_each-repeats, bytes_eq-Decides)
+
+-- nor do others, with the same marks
+pub touched_again : (rows others : List (List ℕ)) (marks : List Bool) → AreTouched rows rows marks → length others ≡ length rows → AreTouched others others marks
+touched_again rows others marks are count = record {
+  count = refl;
+  marks = are.marks ∙ sym count;
+  above = λ i lt. max_each-repeats (get_or others i []);
+  differ = λ i lt.
+      are.differ i (omega (arith, count, lt))
+      ∙ ap not ((bytes_eq-Decides (get_or rows i []) (get_or rows i [])).1 refl)
+      ∙ sym (ap not ((bytes_eq-Decides (get_or others i []) (get_or others i [])).1 refl));
+}

@@ -4,14 +4,14 @@ use Rattle.replica.proofs.Names.{Option, arc_value, BatchValue, PlanValue, State
 use Rattle.registers.specs.Joined.{maximum_of_rows, union_of_flags}
 use Rattle.replica.specs.declared.progress.Progress.TheInside as progress
 use Rattle.replica.specs.Ahead.{IsTable, either}
-use Rattle.replica.specs.Hearing.{CanHear, Fills, HearingValue, HearsEarly, KeepsAll, Renews}
+use Rattle.replica.specs.Hearing.{CanHear, Fills, HearingValue, HearsEarly, KeepsAll}
 use Rattle.replica.specs.Index.{targets_of}
 use Rattle.replica.specs.Level.{differences}
-use Rattle.replica.specs.Merged.{Absorbs, CanAbsorb, TakesIn, TakesOver}
+use Rattle.replica.specs.Merged.{Absorbs, CanAbsorb, CanTakeIn, CanTakeOver, TakesIn, TakesOver}
 use Rattle.replica.specs.Progress.{CanGoOn, IsWhole, ProgressValue}
 use Rattle.replica.specs.Seen.{IsProgress, IsState, progress_of, state_of}
 use Rattle.replica.specs.Tables.{TablesValue}
-use Rattle.replica.proofs.HearingLemmas.Accumulator.{Keeps, fields_are, fields_of, whole_keeps}
+use Rattle.replica.proofs.HearingLemmas.Accumulator.{Keeps, NoneSpare, fields_are, fields_of, kept_progress, none_spare, whole_keeps}
 use Rattle.replica.proofs.HearingLemmas.Hear.{hears_as, hears_same}
 use Rattle.replica.proofs.HearingLemmas.Hearing.{hears_said}
 use Rattle.replica.proofs.MergedLemmas.Merge.{Gathers, Meets, Raises, Unites, absorbs_further, absorbs_lesser, absorbs_level, gathers_state, raises, touched_from, unites_state}
@@ -46,8 +46,14 @@ pub record Absorbed (r : progress.Inside) (v u : State) : Type 0 where
   pub absorbs : Absorbs v u (state_of r)
   pub whole : IsWhole (progress_of r)
 
-absorbed : (r : progress.Inside) (s o v u : State) → s ≡ v → o ≡ u → IsState (fields_of r) → r.tables.rows.width ≡ 2 ^ (arc_value r.part).plan.log2m → r.hearing.accumulated.width ≡ 2 ^ (arc_value r.part).plan.log2m → KeepsAll r.tables.rows.rows r.hearing → (arc_value r.part).plan.limit + 1 ≤ r.tables.room → Absorbs s o (fields_of r) → Absorbed r v u
-absorbed r s o v u is other st width accumulated kept room made = grind (arith, fields_are)
+absorbed : (r : progress.Inside) (s o v u : State) → s ≡ v → o ≡ u → IsState (fields_of r) → r.tables.rows.width ≡ 2 ^ (arc_value r.part).plan.log2m → r.hearing.accumulated.width ≡ 2 ^ (arc_value r.part).plan.log2m → KeepsAll r.tables.rows.rows r.hearing → NoneSpare r → (arc_value r.part).plan.limit + 1 ≤ r.tables.room → Absorbs s o (fields_of r) → Absorbed r v u
+absorbed r s o v u is other st width accumulated kept spare room made =
+    let whole : fields_of r ≡ state_of r = fields_are r kept.count in
+    record {
+      limits = kept_progress r st width accumulated kept spare;
+      absorbs = subst (λ (w : State). Absorbs v u w) whole (rw (← is, ← other) made);
+      whole = record { kept = kept.count; spare = spare.none.0; room = room };
+    }
 
 -- it is further
 pub lesser_taken : (r o : progress.Inside) (v u : State) (plan : PlanValue) (targets : List (List ℕ)) (shared left early : List (List (Option BatchValue))) (next : HearingValue) → Merging r o v u shared → o.superstep < r.superstep → plan ≡ (arc_value r.part).plan → targets ≡ targets_of (arc_value r.part) →
@@ -69,7 +75,7 @@ lesser_taken r o v u plan targets shared left early next g lt same index hears k
     } in
     absorbed after s l v u g.keeps.view_is g.other_is
     (gathers_state s l (fields_of after) m.mine m.theirs made (sym m.plan) (sym m.number) refl refl refl m.mine.part)
-    g.limits.width (hears.also.width ∙ g.limits.accumulated_width) (hears.also.touched r.tables.rows.rows g.keeps.kept) g.room
+    g.limits.width (hears.also.width ∙ g.limits.accumulated_width) (hears.also.touched r.tables.rows.rows g.keeps.kept) (none_spare r g.limits g.keeps.kept.count) g.room
     (absorbs_lesser s.part.plan.log2m s l (fields_of after) made refl)
 
 -- the other one is: then its own batches can be heard beside what that one has
@@ -96,6 +102,7 @@ overtaken r o v u plan targets shared left early b taken next g lt same index is
     (gathers_state l s (fields_of after) m.theirs m.mine made m.plan m.number m.plan m.number m.size m.mine.part)
     (ap (λ (t : TablesValue). t.rows.width) is ∙ width) (hears.also.width ∙ fills.width ∙ width)
     (subst (λ (t : TablesValue). KeepsAll t.rows.rows next) (sym is) (hears.also.touched o.tables.rows.rows fills.kept))
+    (none_spare r g.limits g.keeps.kept.count)
     (subst (λ (t : TablesValue). s.part.plan.limit + 1 ≤ t.room) (sym is) g.room)
     (absorbs_further l.part.plan.log2m s l (fields_of after) made refl)
 
@@ -128,7 +135,7 @@ united r o v u shared early theirs next g level are is kept table =
     g.limits.width both.width
     (touched_from s.part.plan.log2m (length s.rows) s.rows next.accumulated.rows next.touched m.mine.rows (all_on s.part.plan.log2m s.rows s.accumulated next.accumulated.rows m.mine.rows m.mine.accumulated both.rise) refl
     (ap (λ (a : HearingValue). a.touched) is ∙ ap (λ (a : HearingValue). differences s.rows a.accumulated.rows (length s.rows)) (sym is)))
-    g.room
+    (none_spare r g.limits g.keeps.kept.count) g.room
     (absorbs_level s l (fields_of after) m.mine m.theirs made refl)
 
 -- ---- once the accumulators are kept again
@@ -137,5 +144,20 @@ pub record TookIn (k l new : ProgressValue) : Type 0 where
   pub taken : TakesIn k.state l.state new.state
   pub goes_on : CanGoOn new
 
-pub took_in : (r o : progress.Inside) (rows : Table) (a : HearingValue) (k l new : ProgressValue) → IsProgress r → progress_of r ≡ k → IsProgress o → progress_of o ≡ l → rows ≡ r.tables.rows → Renews rows.rows r.hearing a → TakesOver (progress_of (record r { hearing = a })) l new → TookIn k l new
-took_in r o rows a k l new mine is theirs other_is same renews over = grind arith
+-- it can take over then
+pub can_take_over : (k now l : ProgressValue) (shared : List (List (Option BatchValue))) (targets : List (List ℕ)) → now.state ≡ k.state → IsWhole now → CanTakeIn k l shared targets → CanTakeOver now l shared targets
+can_take_over k now l shared targets same whole can = record {
+  two = subst (λ (v : State). CanAbsorb v l.state shared) (sym same) can.two;
+  whole = whole;
+  index = can.index ∙ ap (λ (v : State). targets_of v.part) (sym same);
+}
+
+pub took_in : (k now l new : ProgressValue) → now.state ≡ k.state → IsState now.state → IsState l.state → TakesOver now l new → TookIn k l new
+took_in k now l new same mine theirs over = record {
+  taken = record {
+    absorbs = subst (λ (v : State). Absorbs v l.state new.state) same over.absorbs;
+    mine = subst (λ (v : State). IsState v) same mine;
+    theirs = theirs;
+  };
+  goes_on = record { kept = inl (omega (arith, over.whole.kept, ap length over.whole.spare)); room = over.whole.room };
+}

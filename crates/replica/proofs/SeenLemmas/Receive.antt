@@ -9,7 +9,7 @@ use Rattle.replica.specs.Hearing.{HearingValue, HearsAlso, HearsByIndex, KeepsAl
 use Rattle.replica.specs.Index.{targets_of}
 use Rattle.replica.specs.Progress.{CanGoOn, ProgressValue}
 use Rattle.replica.specs.Seen.{HasIndex, IsProgress, progress_of, state_of}
-use Rattle.replica.proofs.HearingLemmas.Accumulator.{Keeps, fields_of, fields_are, hearing_keeps, kept_progress, state_is}
+use Rattle.replica.proofs.HearingLemmas.Accumulator.{Keeps, NoneSpare, Whole, fields_of, fields_are, hearing_keeps, kept_progress, none_spare, state_is}
 use Rattle.replica.proofs.HearingLemmas.Hear.{hears_as}
 use Rattle.replica.proofs.LevelLemmas.Level.{number_is}
 use Rattle.replica.proofs.LevelLemmas.Over.{hearing_index, kept_over}
@@ -27,15 +27,24 @@ pub record Hearable (r : progress.Inside) (v : State) (b : BatchValue) (targets 
   pub index : targets ≡ targets_of (arc_value r.part)
   pub ready : HearsByIndex b.plan.log2m targets r.hearing
 
-pub hearable : (r : progress.Inside) (l : ProgressValue) (b : BatchValue) (targets : List (List ℕ)) (name : BatchName) → IsProgress r → CanGoOn l → progress_of r ≡ l → IsBatch b →
+pub hearable : (r : progress.Inside) (l : ProgressValue) (b : BatchValue) (targets : List (List ℕ)) (name : BatchName) → IsProgress r → NoneSpare r → CanGoOn l → progress_of r ≡ l → IsBatch b →
     take_of l.state.part.plan l.state.part.number (content_of l.state) b.plan b.name ≡ Ok taken.New → HasIndex l.state targets → name ≡ b.name → name.superstep ≡ r.superstep → Hearable r l.state b targets
-hearable r l b targets name ok can is batch new has named here =
+hearable r l b targets name ok spare can is batch new has named here =
     let now : b.name.superstep ≡ r.superstep = ap (λ (n : BatchName). n.superstep) (sym named) ∙ here in
-    let k = hearing_keeps r l b ok can is batch new (now ∙ ap (λ (u : State). u.superstep) (state_is is)) in
+    let k = hearing_keeps r l b ok spare can is batch new (now ∙ ap (λ (u : State). u.superstep) (state_is is)) in
     let mine = subst (λ (u : State). take_of u.part.plan u.part.number (content_of u) b.plan b.name ≡ Ok taken.New) (sym k.view_is) new in
     let index = hearing_index (fields_of r) b targets (subst (λ (u : State). HasIndex u targets) (sym k.view_is) has) batch mine now in
     let is_fresh = fresh (fields_of r) b batch mine in
     grind (arith, ready_at, fields_of)
+
+-- once stale accumulators are taken back
+pub hearable_whole : (r : progress.Inside) (l : ProgressValue) (b : BatchValue) (targets : List (List ℕ)) (name : BatchName) → Whole r l.state (CanGoOn l) → CanGoOn l → IsBatch b →
+    take_of l.state.part.plan l.state.part.number (content_of l.state) b.plan b.name ≡ Ok taken.New → HasIndex l.state targets → name ≡ b.name → name.superstep ≡ r.superstep → Hearable r l.state b targets
+hearable_whole r l b targets name whole can batch new has named here =
+    subst (λ (u : State). Hearable r u b targets) whole.same
+    (hearable r (progress_of r) b targets name whole.limits whole.spare (whole.goes_on can) refl batch
+    (subst (λ (u : State). take_of u.part.plan u.part.number (content_of u) b.plan b.name ≡ Ok taken.New) (sym whole.same) new)
+    (subst (λ (u : State). HasIndex u targets) (sym whole.same) has) named here)
 
 pub record Heard (r : progress.Inside) (v : State) (b : BatchValue) : Type 0 where
   pub limits : IsProgress r
@@ -52,7 +61,7 @@ heard_now r v b targets after ok h also =
     let kept = also.touched r.tables.rows.rows h.keeps.kept in
     record {
       limits = kept_progress (record r { hearing = after })
-          (grind (arith, sources_heard s w b h.is_fresh st also.hears.count also.hears.sources)) ok.width (also.width ∙ ok.accumulated_width) kept;
+          (grind (arith, sources_heard s w b h.is_fresh st also.hears.count also.hears.sources)) ok.width (also.width ∙ ok.accumulated_width) kept (none_spare r ok h.keeps.kept.count);
       kept = kept;
       receives = subst (λ (u : State). Receives b v u) (fields_are (record r { hearing = after }) rise.count)
           (subst (λ (u : State). Receives b u w) h.keeps.view_is (record {

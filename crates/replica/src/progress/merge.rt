@@ -5,7 +5,8 @@ ghost use Rattle.ball_model.specs.History.{holding_in};
 ghost use Rattle.ball_model.specs.Join.{AreAlike};
 ghost use Rattle.replica.specs.Index.{targets_of};
 ghost use Rattle.replica.specs.Merged.{CanTakeIn, CanTakeOver, TakesIn, TakesOver};
-ghost use Rattle.replica.specs.Progress.{CanGoOn};
+ghost use Rattle.replica.specs.Progress.{CanGoOn, IsWhole};
+ghost use Rattle.replica.specs.Seen.{IsState};
 
 use crate::early::Early;
 use crate::progress::is_same;
@@ -36,7 +37,7 @@ impl Progress {
         ensures goes_on { CanGoOn self.new }
     {
         let theirs = other.superstep;
-        self.hearing.renew(alloc, self.tables.rows())?;
+        self.keep_all(alloc)?;
         if self.superstep < theirs {
             self.overtake(targets, other, shared);
         } else if theirs < self.superstep {
@@ -45,6 +46,18 @@ impl Progress {
             self.unite(alloc, other, shared);
         }
         Ok(())
+    }
+
+    // Keeps an accumulator of each row, whether the run is over or not. An error changes nothing that it tells.
+    fn keep_all(&mut self, alloc: Global) -> Result<(), AllocError>
+        requires { CanGoOn self.old }
+        ensures same { self.new.state ≡ self.old.state }
+        ensures goes_on { CanGoOn self.new }
+        ensures whole { OnOk result (IsWhole self.new) }
+        ensures state { IsState self.new.state }
+    {
+        self.hearing.take_back(&mut self.spare, &self.tables);
+        self.hearing.renew(alloc, self.tables.rows())
     }
 
     // Becomes what another one is that is further; of the own batches those count that are of its superstep or later.

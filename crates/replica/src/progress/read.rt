@@ -5,6 +5,7 @@ ghost use Rattle.ball_model.specs.State.{content_of};
 ghost use Rattle.replica.specs.Level.{is_changing, level_verdict};
 ghost use Rattle.replica.specs.Seen.{IsPlaceOf, OwnsVertex};
 
+use crate::hearing::Hearing;
 use crate::{Progress, level};
 use ball_model::Verdict;
 use ball_model::plan::MOST_PARTS;
@@ -74,6 +75,7 @@ impl Progress {
     {
         let part = Arc::try_clone(&self.part)?;
         let early = self.early.share(alloc)?;
+        let spare = Hearing::bare(alloc, self.tables.rows())?;
         let hearing = self.hearing.copied(alloc)?;
         let tables = self.tables.copied(alloc)?;
         Ok(Progress {
@@ -81,6 +83,7 @@ impl Progress {
             superstep: self.superstep,
             tables,
             hearing,
+            spare,
             early,
         })
     }

@@ -56,6 +56,7 @@ impl Progress {
     {
         let name = batch.name();
         if name.superstep == self.superstep {
+            self.hearing.take_back(&mut self.spare, &self.tables);
             self.hearing.hear(targets, &batch);
         } else {
             let level = (name.superstep - self.superstep - 1) as usize;
@@ -96,6 +97,7 @@ impl Progress {
         requires { CanLetGo self.old }
         ensures { StaysSame self.old self.new }
     {
+        self.hearing.take_back(&mut self.spare, &self.tables);
         self.tables.give_back();
         self.hearing.let_go();
     }
@@ -121,6 +123,7 @@ impl Progress {
         ensures { GoesFurther self.old.state self.new targets.now estimator.now weights.new }
     {
         let plan = *self.part.plan();
+        self.hearing.take_back(&mut self.spare, &self.tables);
         self.hearing.hear_own(targets, &self.part, &self.tables);
         let closing = Closing {
             estimator: &*estimator,

@@ -7,6 +7,7 @@ ghost use Rattle.replica.specs.Change.{Advances};
 ghost use Rattle.replica.specs.Seen.{GoesFurther, HoldsTogether, IsState};
 
 use crate::level::{Closing, Team};
+use crate::pull::halvings_for;
 use crate::targets::Targets;
 use crate::{Progress, Shown};
 use ball_model::{CloseError, Verdict};
@@ -54,15 +55,68 @@ impl Progress {
         requires going { level_verdict self.old.state ≡ verdict.GoOn }
         ensures { GoesFurther self.old.state self.new targets.now estimator.now weights.new }
     {
+        if self.tables.are_walked(team, &self.part) {
+            self.walk_on(team, targets, estimator, weights);
+        } else {
+            self.spread_on(team, targets, estimator, weights);
+        }
+    }
+
+    // One superstep more, as `advance`, where figures are stepped by a team.
+    fn spread_on<R: Threads + Sync>(
+        &mut self,
+        team: &Team<'_, R>,
+        targets: &Targets,
+        estimator: &Estimator,
+        weights: &mut [u64],
+    )
+        requires goes_on { HoldsTogether self.old targets.now estimator.now weights.old }
+        requires going { level_verdict self.old.state ≡ verdict.GoOn }
+        ensures { GoesFurther self.old.state self.new targets.now estimator.now weights.new }
+    {
+        let plan = *self.part.plan();
+        self.hearing.take_back(&mut self.spare, &self.tables);
+        self.hearing.hear_own(targets, &self.part, &self.tables);
+        let closing = Closing {
+            estimator: &*estimator,
+            t: self.superstep,
+        };
+        self.tables
+            .next_by(team, &closing, &mut self.hearing, weights);
+        self.superstep += 1;
+        self.hearing.hear_early(targets, &plan, &mut self.early, 0);
+    }
+
+    // One superstep more, as `advance`, in one walk by a team, after which the accumulators are stale. If there are other
+    // partitions, whose batches are to be heard, they are taken back at once.
+    fn walk_on<R: Threads + Sync>(
+        &mut self,
+        team: &Team<'_, R>,
+        targets: &Targets,
+        estimator: &Estimator,
+        weights: &mut [u64],
+    )
+        requires goes_on { HoldsTogether self.old targets.now estimator.now weights.old }
+        requires going { level_verdict self.old.state ≡ verdict.GoOn }
+        ensures { GoesFurther self.old.state self.new targets.now estimator.now weights.new }
+    {
         let plan = *self.part.plan();
         let closing = Closing {
             estimator: &*estimator,
             t: self.superstep,
         };
-        let hearing = &mut self.hearing;
+        let stale = self.hearing.lend(&mut self.spare);
+        let spare = &mut self.spare;
         self.tables
-            .hear_and_go_on(team, targets, &self.part, &closing, hearing, weights);
+            .walk(team, &self.part, &closing, stale, spare, weights);
         self.superstep += 1;
+        if plan.parts() == 1 {
+            self.early.shift(1);
+            return;
+        }
+        let depth = halvings_for(team, plan.width(), self.tables.marks());
+        self.hearing
+            .take_back_by(team.rt, depth, &mut self.spare, &self.tables);
         self.hearing.hear_early(targets, &plan, &mut self.early, 0);
     }
 }

@@ -9,6 +9,7 @@ ghost use Rattle.replica.specs.Relay.{DifferWhereEither, IsRelay, shown_of};
 use super::{Behind, Relay, Relayed, Shared, filled, mark_all};
 use registers::{Rows, next_marked, take_over};
 use std::alloc::{AllocError, Global};
+use std::mem;
 use std::sync::Arc;
 use std::thread::Threads;
 
@@ -65,7 +66,8 @@ impl Relayed for Rows {
     ghost both = { rows_both };
 }
 
-// Rows go on by `go_on`, then `put` for each row that changes or `put_marked` for all, then `leave_behind`.
+// Rows go on by `go_on`, then `put` for each row that changes or `put_marked` for all, then `leave_behind`; or by
+// `change_places`.
 impl Relay<Rows> {
     /// Makes ready for the rows of `ahead`, from which these differ in marked rows alone: what is shown afterwards
     /// differs from them in marked rows alone too. If the rows were handed out, the answer is what they were, to be
@@ -127,15 +129,34 @@ impl Relay<Rows> {
         take_over(rt, depth, own, ahead, marks);
     }
 
-    /// The rows go on to those of `ahead`, from which they differ in marked rows alone, in 2^depth threads. It takes no
-    /// memory but that of the threads, and the time of [`Relay::go_on`] and [`Relay::put_marked`].
-    pub fn go_on_by<R: Threads + Sync>(&mut self, rt: &R, depth: u32, ahead: &Rows, marks: &[bool])
-        requires { DifferWhere marks.now self.old ahead.now }
-        ensures { self.new ≡ ahead.now }
+    /// The rows go on to those of `ahead`, from which they differ in marked rows alone, without a copy of one: `ahead`
+    /// becomes a table that differs from them in marked rows alone. It takes no memory, and the time of [`Relay::go_on`]
+    /// beside that of the marks.
+    pub fn change_places(&mut self, ahead: &mut Rows, marks: &[bool])
+        requires { DifferWhere marks.now self.old ahead.old }
+        ensures rows { self.new ≡ ahead.old }
+        ensures ahead { DifferWhere marks.now ahead.new self.new }
     {
         let before = self.go_on(ahead, marks);
-        self.put_marked(rt, depth, ahead, marks);
+        self.swap_marked(ahead, marks);
         self.leave_behind(before);
+    }
+
+    // The rows and those of `ahead`, from which they differ in marked rows alone, change places.
+    fn swap_marked(&mut self, ahead: &mut Rows, marks: &[bool])
+        requires { DifferWhere marks.now self.old ahead.old }
+        ensures rows { self.new ≡ ahead.old }
+        ensures ahead { ahead.new ≡ self.old }
+    {
+        let Relay {
+            own,
+            out,
+            behind,
+            ..
+        } = self;
+        mark_all(behind, marks);
+        part(own, out);
+        mem::swap(own, ahead);
     }
 
     /// From now on what the rows were before they went on is kept as the table shown before.

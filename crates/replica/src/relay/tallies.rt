@@ -1,10 +1,12 @@
 //! Tallies that are handed out while they go on.
 
-ghost use Rattle.std.specs.Prelude.{◌≡◌, ◌≤◌, List, None, length, map, IfOk, IfSome};
+ghost use Rattle.std.specs.Prelude.{◌≡◌, ◌≤◌, List, None, length, map, IfOk, IfSome, IsTrue};
 ghost use Rattle.std.specs.Arc.{arc_value};
 ghost use Rattle.std.specs.Vec.{vec_capacity};
 ghost use Rattle.ball_model.specs.Figures.{TallyValue};
 ghost use Rattle.figures.specs.Values.{value_of};
+ghost use Rattle.registers.specs.Differ.{DifferWhere};
+ghost use Rattle.replica.specs.Hearing.{fresh_table};
 ghost use Rattle.replica.specs.Relay.{AreOwnAgain, CanBeRelayed, DifferAt, IsRelay, shown_of};
 ghost use Rattle.replica.specs.Tables.{AreStepped, CanBeStepped};
 ghost use Rattle.replica.specs.Walk.{CanWalk, Walks};
@@ -87,11 +89,15 @@ impl Tallies {
         touched: &mut [bool],
         weights: &mut [u64],
     ) -> u128
-        requires { CanWalk walk.now.estimator.now walk.now.t walk.now.pull.part.now
-            walk.now.pull.rows.now walk.now.pull.marks.now accumulated.old touched.old
+        requires can { CanWalk walk.now.estimator.now walk.now.t walk.now.pull.part.now
+            walk.now.pull.rows.now walk.now.pull.marks.now
+            (fresh_table walk.now.stale walk.now.pull.rows.now accumulated.old) touched.old
             weights.old self.old }
+        requires stale { IsTrue walk.now.stale → DifferWhere walk.now.pull.marks.now
+            accumulated.old walk.now.pull.rows.now }
         ensures { Walks walk.now.estimator.now walk.now.t walk.now.pull.part.now
-            walk.now.pull.rows.now walk.now.pull.marks.now accumulated.old accumulated.new
+            walk.now.pull.rows.now walk.now.pull.marks.now
+            (fresh_table walk.now.stale walk.now.pull.rows.now accumulated.old) accumulated.new
             touched.old touched.new self.old self.new weights.new result }
     {
         walk_own(rt, walk, accumulated, touched, weights, &mut self.items)
@@ -219,11 +225,15 @@ impl Relay<Tallies> {
         touched: &mut [bool],
         weights: &mut [u64],
     ) -> u128
-        requires { CanWalk walk.now.estimator.now walk.now.t walk.now.pull.part.now
-            walk.now.pull.rows.now walk.now.pull.marks.now accumulated.old touched.old
+        requires can { CanWalk walk.now.estimator.now walk.now.t walk.now.pull.part.now
+            walk.now.pull.rows.now walk.now.pull.marks.now
+            (fresh_table walk.now.stale walk.now.pull.rows.now accumulated.old) touched.old
             weights.old self.old }
+        requires stale { IsTrue walk.now.stale → DifferWhere walk.now.pull.marks.now
+            accumulated.old walk.now.pull.rows.now }
         ensures { Walks walk.now.estimator.now walk.now.t walk.now.pull.part.now
-            walk.now.pull.rows.now walk.now.pull.marks.now accumulated.old accumulated.new
+            walk.now.pull.rows.now walk.now.pull.marks.now
+            (fresh_table walk.now.stale walk.now.pull.rows.now accumulated.old) accumulated.new
             touched.old touched.new self.old self.new weights.new result }
     {
         let shown = self.out.take();

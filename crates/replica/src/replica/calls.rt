@@ -22,6 +22,7 @@ ghost use Rattle.replica.specs.Start.{Starts};
 
 use crate::early::Early;
 use crate::first::FirstTables;
+use crate::hearing::Hearing;
 use crate::level::Team;
 use crate::progress::is_same;
 use crate::pull::Sizes;
@@ -90,12 +91,14 @@ impl Replica {
             estimator,
             weights,
         } = first;
+        let spare = Hearing::bare(alloc, tables.rows())?;
         Ok(Replica {
             progress: Progress {
                 part,
                 superstep: 0,
                 tables,
                 hearing,
+                spare,
                 early,
             },
             targets,

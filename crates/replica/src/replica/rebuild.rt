@@ -49,12 +49,14 @@ fn rebuilt(alloc: Global, part: Arc<Part>, saved: Saved) -> Result<Progress, All
     let mut sums = Vec::with_capacity(alloc, part.plan().limit() as usize + 1)?;
     tables::refill(&mut sums, &saved.sums);
     let early = kept(alloc, &part, saved.superstep, &saved.early)?;
+    let spare = Hearing::bare(alloc, &saved.rows)?;
     let (heard, change, accumulated) = (saved.heard, saved.heard_change, saved.accumulated);
     Ok(Progress {
         part,
         superstep: saved.superstep,
         tables: Tables::of(saved.rows, saved.marks, saved.tallies, sums),
         hearing: Hearing::of(heard, change, accumulated, touched),
+        spare,
         early,
     })
 }

@@ -163,13 +163,15 @@ fn replicas<R: AllocGlobal + Threads + Sync>(
 }
 
 /// What is done beside closing: nothing; a snapshot of each replica is held as it closes; it is merged then, though it has
-/// nothing new to tell; each replica is one that took over a snapshot of the one before.
+/// nothing new to tell; each replica is one that took over a snapshot of the one before; every other superstep is closed by
+/// one thread.
 #[derive(Clone, Copy)]
 enum Beside {
     Nothing,
     Held,
     Merged,
     Recalled,
+    Turned,
 }
 
 /// A new replica of a partition that has taken over a snapshot of another one, if it shows the same.
@@ -207,6 +209,8 @@ fn close_one<R: Threads + Sync>(
             *replica = recalled(alloc, replica)?;
             Some(went_on)
         }
+        Beside::Turned if replica.superstep() % 2 == 1 => Some(replica.close().is_ok()),
+        Beside::Turned => Some(replica.close_in(team).is_ok()),
     }
 }
 
@@ -263,10 +267,21 @@ fn goes_on<R: AllocGlobal + Threads + Sync>(
         let changed = changed_in(&all);
         right &= run.log2m < 8 || changed == *count;
         if changed == 0 {
-            return Some(right);
+            return Some(give_back(host, run, &mut all)? && right);
         }
     }
     Some(false)
+}
+
+/// Whether replicas whose run is over show the same once they have given back what only going on needs.
+fn give_back(host: &HostRuntime, run: &Run<'_>, all: &mut [Replica]) -> Option<bool> {
+    let mut right = exchange(host, all, 0, usize::from(run.parts));
+    for replica in all.iter_mut() {
+        let snapshot = replica.snapshot(host.alloc()).ok()?;
+        replica.give_back();
+        right &= shows_all(replica, &snapshot);
+    }
+    Some(right)
 }
 
 /// Whether it does so by teams of 1, 2, 3 and 8 threads that begin at any size, whatever is done beside.
@@ -286,6 +301,7 @@ fn goes_on_by_teams<R: AllocGlobal + Threads + Sync>(
         right &= goes_on(host, &team, run, Beside::Held)?;
         right &= goes_on(host, &team, run, Beside::Merged)?;
         right &= goes_on(host, &team, run, Beside::Recalled)?;
+        right &= goes_on(host, &team, run, Beside::Turned)?;
     }
     Some(right)
 }

@@ -3,23 +3,10 @@ use Rattle.replica.proofs.Names.{Option, None, Some, cases_lt, le-ltb, lt-ltb, B
 use Rattle.replica.specs.Hearing.{HearingValue, HearsAlso, HearsByIndex, batch_by}
 use Rattle.replica.specs.Kept.{IsFrom}
 use Rattle.replica.proofs.HearingLemmas.Hear.{batches_below}
-use Rattle.replica.proofs.HearingLemmas.Hearing.{also_next, also_same, can_hear_later}
+use Rattle.replica.proofs.HearingLemmas.Hearing.{also_next, also_same, can_hear_later, silent}
 use Rattle.replica.proofs.AheadLemmas.{no_source, shifted_told}
 use Rattle.replica.proofs.hearing.Hearing.hear_early.Goals as goal
 use Rattle.replica.proofs.hearing.Hearing.hear_early.Goals.{in-Some, in-None}
-
--- where a source tells nothing, nothing more is heard
-silent : (log2m : ℕ) (targets : List (List ℕ)) (n : ℕ) (a : HearingValue) → HearsByIndex log2m targets a → HearsAlso log2m targets (batch_by n None) a a
-silent log2m targets n a ready = record {
-  hears = record {
-    count = refl;
-    sources = λ q. grind arith;
-    rise = record { count = refl; rises = λ i lt. record { row = ready.counters.row i lt; grew = λ k below. omega arith } };
-    stands = λ j p t job index told is. is;
-  };
-  width = refl;
-  touched = λ rows are. are;
-}
 
 -- what the sources below a number tell is all that is told, where no other one tells anything
 all_told : (m : ℕ) (targets : List (List ℕ)) (told : ℕ → Option BatchValue) (n : ℕ) (a b : HearingValue) → ((q : ℕ) → n ≤ q → told q ≡ None) → HearsAlso m targets (batches_below told n) a b → HearsAlso m targets told a b
@@ -49,7 +36,7 @@ loop-source-preserved c =
           (subst (λ (a : PlanValue). HearsAlso a.log2m targets (batch_by b.name.source (Some b)) before w.hear.new.self) from.plan_is w.hear.ensures))
       | in-None w ↦
           let is : told n ≡ None = sym c.get.ensures ∙ ap (option_map (λ b. b.now)) w.in-None.is in
-          rw (is, w.self-is) (silent m targets n before ready)
+          rw (is, w.self-is) (silent m targets (batch_by n None) before ready (λ q. grind arith))
     ] in
     record { hears = also_next m targets told n c.args.self.now before c.match-get.self can.ready c.loop-source.invariant.hears also }
 

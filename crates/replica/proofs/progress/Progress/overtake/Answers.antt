@@ -20,7 +20,7 @@ further c g = omega (arith, c.requires.further, ap (λ (v : State). v.superstep)
 
 -- what it is then
 abbrev after : After-fill → progress.Inside
-after c = record { part = c.self.inside.part; superstep = c.other.inside.superstep; tables = c.assign.new.self; hearing = c.hear_early.new.self; early = c.fill.new.self }
+after c = record { part = c.self.inside.part; superstep = c.other.inside.superstep; tables = c.assign.new.self; hearing = c.hear_early.new.self; spare = c.self.inside.spare; early = c.fill.new.self }
 
 made : (c : After-fill) → Merging c.self.inside c.other.inside c.args.self.now.state c.args.other.now.state c.args.shared.now → c.self.inside.superstep < c.other.inside.superstep → Fills c.other.inside.tables.rows c.other.inside.hearing c.assign-2.new.self → Absorbed (after c) c.args.self.now.state c.args.other.now.state
 made c g lt taken =

@@ -1,7 +1,9 @@
-use Rattle.std.proofs.Common.{◌≡◌, ◌+◌, ◌≤◌, map, refl, ap, sym, ◌∙◌, subst, arith}
+use Rattle.std.proofs.Common.{◌≡◌, ◌+◌, ◌≤◌, [], map, refl, ap, sym, ◌∙◌, subst, arith}
 use Rattle.replica.proofs.Names.{arc_value, vec_capacity, PartValue, IsPart, PlanValue, measure_of, value_of, length-map}
 use Rattle.replica.specs.declared.progress.Progress.TheInside as progress
+use Rattle.replica.specs.Hearing.{IsQuiet}
 use Rattle.replica.specs.Saved.{KeepsInPlace}
+use Rattle.replica.specs.Tables.{TablesValue}
 use Rattle.replica.proofs.LevelLemmas.Level.{length-differing}
 use Rattle.replica.proofs.LevelLemmas.Next.{lasts_count}
 use Rattle.replica.proofs.StartLemmas.Made.{Remade, remade}
@@ -16,7 +18,7 @@ of-requires-2 c = grind (arith, length-differing, c.in_ok-touched.ensures, c.req
 
 -- what is known then
 abbrev after : After-of-2 → progress.Inside
-after c = record { part = c.args.part; superstep = c.args.saved.superstep; tables = c.of.result; hearing = c.of-2.result; early = c.in_ok-early.early }
+after c = record { part = c.args.part; superstep = c.args.saved.superstep; tables = c.of.result; hearing = c.of-2.result; spare = c.in_ok-spare.spare; early = c.in_ok-early.early }
 
 is_remade : (c : After-of-2) → Remade (after c) c.args.saved
 is_remade c =
@@ -27,6 +29,7 @@ is_remade c =
     let room : a.plan.limit + 1 ≤ vec_capacity sums = omega (arith, limit, c.refill.ensures.capacity, c.in_ok-sums.ensures.capacity) in
     let early : KeepsInPlace a.plan a.number s.superstep (map arc_value s.early.items) c.in_ok-early.early = rw (← c.deref-4.ensures, ← c.deref-5.ensures.value) c.in_ok-early.ensures in
     remade (after c) s sums.items (vec_capacity sums) c.in_ok-touched.touched.items (subst (λ (p : PartValue). IsPart p) c.deref.ensures c.limits.ensures.part) c.requires refl c.of.ensures (c.refill.ensures.items ∙ c.deref-3.ensures.value) room c.of-2.ensures c.in_ok-touched.ensures early.placed early.told
+    (subst (λ (t : TablesValue). IsQuiet (record { width = t.rows.width; rows = [] }) c.in_ok-spare.spare) (sym c.of.ensures) c.in_ok-spare.ensures)
 
 pub invariant_of-result : goal.invariant_of-result
 invariant_of-result c = (is_remade c).limits
