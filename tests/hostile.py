@@ -6,8 +6,8 @@ Usage: tests/hostile.py [INPUTS [SECONDS [SEED]]]   (1000 inputs of each kind, f
        tests/hostile.py program   (the same without large runs, and without the tests of refused calls, which only the gate builds)
 
 Inputs are random bytes, right ones with a few bytes changed, and scripts of random commands; a kind's inputs depend on
-its name and the seed alone. Each run is a process of its own. It has to end by itself, with status 0 and nothing told,
-or with status 1, one line of fault and nothing written (but what a node has answered). Where cc is there, feed.c copies
+its name and the seed alone. Each run is a process of its own. It has to end by itself, with status 0 and nothing told
+(but a hint), or with status 1, one line of fault and nothing written (but what a node has answered). Where cc is there, feed.c copies
 the process before its main is called, which spares starting it anew for each input, and refuse.c stands between the
 program and the C library: each allocation is refused in turn, each thread, and each read and each write fails in turn.
 The tests of refused calls that the gate built are run so, too. Under limits of the address space memory runs out for
@@ -15,6 +15,7 @@ good. Prints a line for each kind; the status is 1 where a run went wrong, or a 
 """
 import os
 import random
+import re
 import resource
 import struct
 import subprocess
@@ -32,6 +33,8 @@ REPORT = open(os.path.join(HERE, "..", "examples", "two-edges.csv"), "rb").read(
 REPLAY = ["replay", "--log2m", "4", "--parts", "2", "--replicas", "2"]
 NODE = ["node", "--log2m", "4", "--parts", "2"]
 GATHER = ["gather", "--log2m", "4", "--parts", "2"]
+# What a run tells unasked of a list that is read with the wrong delimiter, or of a file that is none.
+HINT = re.compile(rb"hyperball: (no line has two fields|the input is (compressed|a Matrix Market file)).*\n")
 # So many runs may meet the refusal of a call that is not the same one in each run.
 FEW = 6
 SCRIPT = b"""# a worker that is kept, restarted and recovered
@@ -71,6 +74,7 @@ def is_fault(status, output, faults):
 
 
 def is_report(data, status, output, faults):
+    faults = HINT.sub(b"", faults)
     return status == 0 and output != b"" and not faults or is_fault(status, output, faults)
 
 
@@ -422,6 +426,9 @@ def refusals(shim):
     for words, data, wanted in ((RUN, EDGES, REPORT), (REPLAY, scripts, answers), (NODE, asked, obeyed), (GATHER, gathered, REPORT)):
         answer = ran(words, data, LD_PRELOAD=shim, SHORT_IO="1")
         count(f"a byte a call: {words[0]}", 1, [] if answer == (0, wanted, b"") else [(answer,)])
+    for data in (b"a,b\r\nb,c", b"\x1f\x8b,", b"%%MatrixMarket\n"):
+        answer, plain = ran(RUN, data, LD_PRELOAD=shim, SHORT_IO="1"), ran(RUN, data)
+        count("a byte a call: a hint", 1, [] if answer == plain and HINT.fullmatch(plain[2]) else [(answer,)])
 
 
 REFUSED_CALLS = (

@@ -10,11 +10,13 @@ did not.
 """
 import os
 import random
+import re
 import subprocess
 import sys
 from concurrent.futures import ProcessPoolExecutor
 from pathlib import Path
 
+from hints import told_of
 from oracle import DELIMITERS, answer_of
 
 TOP = Path(__file__).resolve().parent.parent
@@ -23,6 +25,7 @@ STORED = {"two-edges": "--log2m 4", "club": "--log2m 4", "web": "--log2m 6 --est
           "committee": "--log2m 4 --estimate corrected --counted"}
 # The faults that the definitions have. Other ones are of other options, of lost workers, or of what a system refuses.
 FAULTS = tuple(f"hyperball: {text}".encode() for text in ("record ", "no line %% ", "log2m is ", "parts is ", "limit is "))
+PROGRESS = re.compile(rb"hyperball: (\d+ records |the supersteps begin|superstep \d|the report is written)")
 
 
 def stored():
@@ -56,8 +59,8 @@ def played():
                     wishes.append(text.removeprefix("$ "))
                 elif mark == "=":
                     status = int(text)
-            told = parts["!"] if status else b""
-            if not parts["*"] and (status == 0 or told.startswith(FAULTS)):
+            told = b"".join(line for line in parts["!"].splitlines(True) if not PROGRESS.match(line))
+            if not parts["*"] and (status == 0 or told.splitlines()[-1].startswith(FAULTS)):
                 for words in wishes:
                     if words.startswith("run"):
                         yield f"{file.name}, {words}", words.split()[1:], parts["<"], (status, parts[">"], told)
@@ -100,7 +103,8 @@ def graph_of(number, seed):
 
 def agrees(place, words, text, wanted):
     """Whether the oracle's end is the one that is wanted."""
-    answer = answer_of(words, text)
+    status, report, fault = answer_of(words, text)
+    answer = status, report, told_of(words, text) + fault
     if answer != wanted:
         print(f"{place}: the oracle says otherwise, with {' '.join(words)} of {text!r}: {answer} and not {wanted}", file=sys.stderr)
     return answer == wanted

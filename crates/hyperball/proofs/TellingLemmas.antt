@@ -6,8 +6,11 @@ use Rattle.std.specs.Io.KnownBytes.{Appends, Keeps}
 use Rattle.std.proofs.lemmas.List.Elements.{All-append, All-cons, All-nil}
 use Rattle.ball_model.specs.WorldText.{node_word}
 use Rattle.node.specs.Stream.{HasNoEnd}
+use Rattle.hyperball.specs.Hints.{hint_text, line_of_hint}
 use Rattle.hyperball.specs.Progress.{TellsProgress, IsLineBehind, line_of, mark_of_program, news_text, news_line}
 use Rattle.ball_model.specs.declared.names.NodeId.{NodeId}
+use Rattle.hyperball.specs.declared.hints.Hint.{Hint}
+use Rattle.hyperball.specs.declared.hints.Hint.TheVariants as hint
 use Rattle.hyperball.specs.declared.lines.News.{News}
 use Rattle.hyperball.specs.declared.lines.News.TheVariants as line
 
@@ -143,4 +146,19 @@ line_is news = record {
   rest = news_text news;
   is = refl;
   one_line = joined mark_of_program (news_text news) (seen mark_of_program refl) (news-no_end news);
+}
+
+hint-no_end : (said : Hint) → HasNoEnd (hint_text said)
+hint-no_end hint.Gzip = seen (hint_text hint.Gzip) refl
+hint-no_end hint.MatrixMarket = seen (hint_text hint.MatrixMarket) refl
+hint-no_end hint.Tab = seen (hint_text hint.Tab) refl
+hint-no_end hint.Comma = seen (hint_text hint.Comma) refl
+hint-no_end hint.Space = seen (hint_text hint.Space) refl
+
+-- and so does each hint
+pub hint_is : (said : Hint) → IsLineBehind mark_of_program (line_of_hint said)
+hint_is said = record {
+  rest = hint_text said;
+  is = refl;
+  one_line = joined mark_of_program (hint_text said) (seen mark_of_program refl) (hint-no_end said);
 }

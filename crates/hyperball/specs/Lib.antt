@@ -10,3 +10,4 @@ pub mod Nodes
 pub mod Progress
 pub mod Wishes
 pub mod Ends
+pub mod Hints

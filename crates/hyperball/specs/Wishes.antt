@@ -3,6 +3,7 @@ use Rattle.std.specs.Prelude.{◌≡◌, ⊤, ◌⊎◌, Bool, true, List, [], O
 use Rattle.clap.specs.Words.{Row, Text, subcommand_of}
 use Rattle.hyperball.specs.CommandLine.{Parsers, TakeNames, hyperball_app}
 use Rattle.hyperball.specs.Nodes.{AsksGather, AsksNode, IsGatherOf, IsNodeOf, NamesGather, NamesNode}
+use Rattle.hyperball.specs.Progress.{Foretells}
 use Rattle.hyperball.specs.Replaying.{AsksReplay, IsReplayOf, NamesReplay}
 use Rattle.hyperball.specs.Words.{AreListed, AsksProgress, GivesProgress, HasFaults, IsRunOf}
 use Rattle.hyperball.specs.declared.cli.Wish.{Wish}
@@ -12,6 +13,7 @@ use Rattle.hyperball.specs.declared.cli.gather.GatherWords.{GatherWords}
 use Rattle.hyperball.specs.declared.cli.one_node.NodeWords.{NodeWords}
 use Rattle.hyperball.specs.declared.cli.replay.ReplayWords.{ReplayWords}
 use Rattle.hyperball.specs.declared.cli.run.RunWords.{RunWords}
+use Rattle.hyperball.specs.declared.lines.News.{News}
 
 -- the subcommand is that of the wish, with these options or their defaults, whatever its lists of orders are
 abbrev pub IsWishOf : Option (Text × List Row) → Wish → Type 0
@@ -101,6 +103,15 @@ tells_progress (wish.Run w) = w.progress
 tells_progress (wish.Replay w) = w.progress
 tells_progress (wish.Node w) = w.progress
 tells_progress (wish.Gather w) = w.progress
+
+-- the line tells of a fault that every plan of the wish has, whatever the graph
+abbrev pub ForetellsOf : Wish → News → Type 0
+ForetellsOf (wish.Run w) news = Foretells w.options.log2m w.options.parts w.options.limit news
+ForetellsOf (wish.Replay w) news = ⊥
+ForetellsOf (wish.Node w) news =
+    Foretells w.job.options.log2m w.job.options.parts w.job.options.limit news
+ForetellsOf (wish.Gather w) news =
+    Foretells w.job.options.log2m w.job.options.parts w.job.options.limit news
 
 -- a wish as a subcommand and its options say it: its command, its lists of orders, and whether progress is to be
 -- reported

@@ -1,13 +1,14 @@
 //! The command line, read by `clap`: the subcommands, each in a file with its words and what they do, and what the words
 //! of a whole line ask for.
 
-ghost use Rattle.std.specs.Prelude.{◌≡◌, [], Err, IfOk, List, true};
+ghost use Rattle.std.specs.Prelude.{◌≡◌, [], Err, IfOk, IfSome, List, true};
 ghost use Rattle.clap.specs.Words.{App, has_subcommand, subcommand_rows_of, with_subcommand};
 ghost use Rattle.clap.specs.declared.error.kind.ErrorKind.{ErrorKind};
 ghost use Rattle.hyperball.specs.CommandLine.{IsApp, Parsers, TakeNames, hyperball_app};
 ghost use Rattle.hyperball.specs.CommandLine.{new_hyperball};
+ghost use Rattle.hyperball.specs.Progress.{Foretells};
 ghost use Rattle.hyperball.specs.Wishes.{AnswersWish, IsOfSubcommand, IsOfWords, IsWish, IsWishOf};
-ghost use Rattle.hyperball.specs.Wishes.{Says, tells_progress};
+ghost use Rattle.hyperball.specs.Wishes.{ForetellsOf, Says, tells_progress};
 ghost use Rattle.hyperball.specs.Words.{FailsWith, HasFaults, ParsesTo, RefusesLists};
 ghost use Rattle.hyperball.specs.Words.{RefusesOrders, texts_of};
 
@@ -25,7 +26,10 @@ use crate::cli::one_node::{NodeWords, node_command, node_words_of};
 use crate::cli::orders::OrdersError;
 use crate::cli::replay::{ReplayWords, replay_command, replay_words_of};
 use crate::cli::run::{RunWords, run_command, run_words};
+use crate::lines::News;
+use crate::progress::foretold;
 use clap::{ArgMatches, Command, Error};
+use edgelist::JobOptions;
 use std::alloc::{AllocError, Global};
 
 const VERSION: &str = "0.1.0";
@@ -90,6 +94,13 @@ pub enum Wish {
     Gather(GatherWords),
 }
 
+// What is told of a job's numbers if no plan has them.
+fn foretold_of(job: &JobOptions) -> Option<News>
+    ensures { IfSome result (Foretells job.now.log2m job.now.parts job.now.limit) }
+{
+    foretold(job.log2m, job.parts, job.limit)
+}
+
 impl Wish {
     /// Whether progress is to be reported.
     pub fn tells_progress(&self) -> bool
@@ -100,6 +111,21 @@ impl Wish {
             Wish::Replay(words) => words.progress,
             Wish::Node(words) => words.progress,
             Wish::Gather(words) => words.progress,
+        }
+    }
+
+    /// What is told before the edge list is read, if no plan has the numbers, whatever the graph. (A replay's script is
+    /// checked before its plan, and the other options of a run before all else.)
+    pub fn foretold(&self) -> Option<News>
+        ensures { IfSome result (ForetellsOf self.now) }
+    {
+        match self {
+            Wish::Run(words) if words.options.are_in_limits() => {
+                foretold_of(&words.options.job())
+            }
+            Wish::Node(words) => foretold_of(&words.job.options),
+            Wish::Gather(words) => foretold_of(&words.job.options),
+            Wish::Run(_) | Wish::Replay(_) => None,
         }
     }
 }

@@ -10,6 +10,7 @@ ghost use Rattle.clap.specs.declared.error.kind.ErrorKind.TheVariants.{InvalidVa
 ghost use Rattle.clap.specs.declared.error.kind.ErrorKind.TheVariants.{MissingSubcommand};
 ghost use Rattle.clap.specs.declared.error.kind.ErrorKind.TheVariants.{UnknownArgument};
 ghost use Rattle.clap.specs.declared.error.kind.ErrorKind.TheVariants.{ValueValidation};
+ghost use Rattle.hyperball.specs.Hints.{line_of_hint};
 ghost use Rattle.hyperball.specs.LawWords.{board_words, corrected_words, counted_words};
 ghost use Rattle.hyperball.specs.LawWords.{log2m_words, node_words, replayed_input, replayed_plan};
 ghost use Rattle.hyperball.specs.LawWords.{space_words, gathered_job, telling_gathering};
@@ -22,6 +23,7 @@ ghost use Rattle.hyperball.specs.Wishes.{IsRun, IsWish};
 ghost use Rattle.hyperball.specs.Words.{AsksProgress, HasFaults};
 ghost use Rattle.hyperball.specs.declared.cli.Wish.{Wish};
 ghost use Rattle.hyperball.specs.declared.cli.run.RunWords.{RunWords};
+ghost use Rattle.hyperball.specs.declared.hints.Hint.{Hint};
 ghost use Rattle.hyperball.specs.declared.lines.News.{News};
 
 /// These words are read as those of run; an option that is not given has its default. (Of lists of orders nothing is said
@@ -200,6 +202,11 @@ pub fn words_of_no_progress()
 /// Each line of progress begins with `hyperball: `, and has one LF, at its end.
 pub fn lines_of_progress()
     ensures { (news : News) → IsLineBehind mark_of_program (line_of news) }
+{}
+
+/// Each hint begins with `hyperball: `, and has one LF, at its end.
+pub fn lines_of_hints()
+    ensures { (hint : Hint) → IsLineBehind mark_of_program (line_of_hint hint) }
 {}
 
 /// Words that are read as those of a replay, of a node or of a gathering ask for that one. Words that are read as those

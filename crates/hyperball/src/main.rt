@@ -7,23 +7,26 @@
 //! [`cli::read_words`] gives what the words ask for, a [`cli::Wish`]: of a run what is asked of it, with the lists of
 //! orders ([`cli::orders`]). With `--counted` a run reads its input whole ([`whole::read_whole`]) and cuts it into its
 //! parts ([`whole::parts_of`]), and so does a replay. The run itself is [`workers::run_watched`]. How a command gets on
-//! is reported in lines of progress ([`lines::News`]), if that is asked for ([`progress`]).
+//! is reported in lines of progress ([`lines::News`]), if that is asked for ([`progress`]). What is told unasked comes
+//! from here: that the input is to be typed, that no plan has the numbers ([`cli::Wish::foretold`]), and what is probably
+//! wrong with the input ([`hints`]).
 //!
 //! ```text
-//! $ printf 'a\tb\nb\tc\n' | hyperball run --log2m 4
-//! superstep,0,33.803869
-//! superstep,1,34.851860
-//! superstep,2,35.588471
-//! superstep,3,35.588471
+//! $ printf 'a\tb\nb\tc\n' | hyperball run --log2m 4 --estimate corrected
+//! superstep,0,3.000000
+//! superstep,1,5.133332
+//! superstep,2,6.276189
+//! superstep,3,6.276189
 //! end,3,stable
-//! gain,0.708147
-//! vertex,a,11.390942,0.000000,0.000000,1.000000,15
-//! vertex,b,11.780376,0.665022,1.503709,208.680703,14
-//! vertex,c,12.417153,0.751274,0.538737,83.065637,13
+//! gain,1.352380
+//! vertex,a,1.000000,0.000000,0.000000,1.000000,15
+//! vertex,b,2.066666,1.066666,0.937500,4.004166,14
+//! vertex,c,3.209523,1.638094,0.298295,3.072753,13
 //! ```
 #![tactic(auto)]
 
 pub mod cli;
+pub mod hints;
 pub mod laws;
 pub mod lines;
 pub mod progress;
@@ -32,6 +35,9 @@ pub mod serve;
 mod tests;
 pub mod whole;
 
+use crate::cli::Wish;
+use crate::hints::{HintingReader, Look};
+use crate::progress::Teller;
 use ball_model::{CountingReader, CountingWriter};
 use std::io::{BufReader, ErrorKind, IsTerminal, Write};
 use std::process::ExitCode;
@@ -52,12 +58,23 @@ fn tell_no_words(rt: &HostRuntime, error: io::Error) -> u8 {
     serve::tell_fault(&mut faults, error)
 }
 
-// A user who is to type the input gets a line that says so. Words that ask for help, or are refused, read none.
-fn tell_terminal(rt: &HostRuntime, words: &[String]) {
-    if rt.stdin().is_terminal() && cli::read_words(rt.alloc(), words).is_ok() {
+// What a user is to know before anything is read: that the input is to be typed, and that no plan has the numbers.
+fn tell_before(rt: &HostRuntime, wish: &Wish) {
+    if rt.stdin().is_terminal() {
         let told =
             "hyperball: reads its input from the terminal; Ctrl-D on a line of its own ends it";
         let _ = writeln!(rt.stderr(), "{told}");
+    }
+    if let Some(news) = wish.foretold() {
+        rt.stderr().tell(news);
+    }
+}
+
+// What is looked at in the input: the edge list of a run.
+fn look_of(wish: &Wish) -> Look {
+    match wish {
+        Wish::Run(words) => Look::new(words.options.delimiter, words.counted),
+        _ => Look::closed(),
     }
 }
 
@@ -66,13 +83,24 @@ fn main(rt: HostRuntime) -> ExitCode {
         Ok(words) => words,
         Err(error) => return ExitCode::from(tell_no_words(&rt, error)),
     };
-    tell_terminal(&rt, &words);
+    // Words that ask for help, or are refused, read nothing.
+    let look = match cli::read_words(rt.alloc(), &words) {
+        Ok(wish) => {
+            tell_before(&rt, &wish);
+            look_of(&wish)
+        }
+        Err(_) => Look::closed(),
+    };
     let mut faults = rt.stderr();
     let stdin = match BufReader::new(rt.alloc(), rt.stdin()) {
         Ok(stdin) => stdin,
         Err(error) => return ExitCode::from(serve::tell_fault(&mut faults, error)),
     };
-    let mut reader = CountingReader::new(stdin);
+    let mut reader = HintingReader::new(
+        CountingReader::new(stdin),
+        look,
+        CountingWriter::new(faults),
+    );
     let mut writer = CountingWriter::new(rt.stdout());
     let status = serve::serve(&rt, &words, &mut reader, &mut writer, &mut faults);
     ExitCode::from(status)

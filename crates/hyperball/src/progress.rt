@@ -1,8 +1,8 @@
 //! What is reported of how a command gets on, if that is asked for.
 //!
 //! [`LendTeller`] hands out a [`Teller`], which tells lines of progress ([`News`]) and nothing else, and takes it back.
-//! What is refused whatever the graph is reported before the edge list is read ([`foretold`]). Of a run [`RunProgress`]
-//! says what is reported, and its [`TellingGate`] says when; a replay, a node and a gathering have a [`TellingWatch`].
+//! What is refused whatever the graph ([`foretold`]) is told unasked. Of a run [`RunProgress`] says what is reported, and
+//! its [`TellingGate`] says when; a replay, a node and a gathering have a [`TellingWatch`].
 
 ghost use Rattle.std.specs.Prelude.{◌≡◌, IfSome, List, None, Option, ℕ};
 ghost use Rattle.hyperball.specs.Progress.{Foretells, IsRefusedForVertices, TellsProgress};
@@ -10,12 +10,12 @@ ghost use Rattle.hyperball.specs.Progress.{Foretells, IsRefusedForVertices, Tell
 use crate::lines::News;
 use ball_model::plan::GREATEST_LIMIT;
 use ball_model::{NodeId, Plan, PlanError};
-use edgelist::{JobOptions, Watch};
+use edgelist::Watch;
 use std::alloc::{AllocError, Global};
 use std::io::{Eprint, Stderr, Write};
 use std::sync::atomic::{AtomicU32, AtomicU64, Ordering};
 use std::time::{Clock, Instant};
-use workers::{Gate, RunOptions, SleepingGate};
+use workers::{Gate, SleepingGate};
 
 /// What tells lines of progress.
 pub trait Teller {
@@ -121,16 +121,6 @@ impl<'a, T: Teller> RunProgress<'a, T> {
             reached: at_start(alloc, parts)?,
             supersteps: no_supersteps(alloc)?,
         })
-    }
-
-    // The edge list is to be read, if the other options are in their limits.
-    fn note_begin(&self, options: &RunOptions) {
-        let job = options.job();
-        if options.are_in_limits()
-            && let Some(news) = foretold(job.log2m, job.parts, job.limit)
-        {
-            self.teller.tell(news);
-        }
     }
 
     // So many records are read so far.
@@ -270,13 +260,6 @@ impl<'a, C: Clock, T: Teller> TellingGate<'a, C, T> {
         })
     }
 
-    /// The run begins, by these options.
-    pub fn before_run(&self, options: &RunOptions) {
-        if let Some(progress) = &self.progress {
-            progress.note_begin(options);
-        }
-    }
-
     /// The run has ended, and written its report or not.
     pub fn after_run(&self, written: bool) {
         if let Some(progress) = &self.progress
@@ -339,13 +322,6 @@ impl<'a, T: Teller> TellingWatch<'a, T> {
     /// Nothing is reported yet.
     pub fn new(teller: &'a Option<T>) -> TellingWatch<'a, T> {
         TellingWatch { teller }
-    }
-
-    /// The edge list of a job is to be read.
-    pub fn before_read(&self, options: &JobOptions) {
-        if let Some(news) = foretold(options.log2m, options.parts, options.limit) {
-            self.tell(news);
-        }
     }
 
     /// The replay has written its answers.

@@ -79,9 +79,36 @@ fn tell_help<D: Display, W: CountedWrite, F: Write>(
     }
 }
 
+// The word that this text of `clap` says was not expected, unless it is an option.
+fn stray_word(text: &str) -> Option<&str> {
+    let Some(rest) = text.strip_prefix("error: unexpected argument '") else {
+        return None;
+    };
+    match rest.split_once("' found") {
+        Some((word, _)) if !word.starts_with('-') => Some(word),
+        _ => None,
+    }
+}
+
+// Tells one who named a file that the input comes on standard input, and the line to type.
+fn tell_file<F: Write>(alloc: Global, words: &[String], error: &clap::Error, faults: &mut F) {
+    let Ok(text) = format!(in alloc; "{error}") else {
+        return;
+    };
+    if let Some(command) = words.get(1)
+        && let Some(file) = stray_word(&text)
+    {
+        let _ = writeln!(
+            faults,
+            "hyperball: the input comes on standard input: hyperball {command} .. < {file}"
+        );
+    }
+}
+
 // Tells why `clap` reads no command: help and the version go to the writer, and all else to the faults.
 fn tell_clap<W: CountedWrite, F: Write>(
     alloc: Global,
+    words: &[String],
     error: &clap::Error,
     writer: &mut W,
     faults: &mut F,
@@ -101,6 +128,7 @@ fn tell_clap<W: CountedWrite, F: Write>(
         }
         _ => {
             let _ = write!(faults, "{error}");
+            tell_file(alloc, words, error, faults);
             MISTAKE
         }
     }
@@ -126,6 +154,7 @@ fn tell_orders<F: Write>(faults: &mut F, error: OrdersError) -> u8
 // Tells why the words are those of no command.
 fn tell_words<W: CountedWrite, F: Write>(
     alloc: Global,
+    words: &[String],
     error: &WordsError,
     writer: &mut W,
     faults: &mut F,
@@ -141,7 +170,7 @@ fn tell_words<W: CountedWrite, F: Write>(
     ensures silent { result ≡ 0 → Keeps (F.contents faults.old) (F.contents faults.new) }
 {
     match error {
-        WordsError::Clap(error) => tell_clap(alloc, error, writer, faults),
+        WordsError::Clap(error) => tell_clap(alloc, words, error, writer, faults),
         WordsError::Orders(error) => tell_orders(faults, *error),
     }
 }
@@ -272,7 +301,7 @@ pub fn serve<
 {
     let wish = match read_words(rt.alloc(), words) {
         Ok(wish) => wish,
-        Err(error) => return tell_words(rt.alloc(), &error, writer, faults),
+        Err(error) => return tell_words(rt.alloc(), words, &error, writer, faults),
     };
     let teller = teller_for(wish.tells_progress(), faults);
     let server = Server {

@@ -37,7 +37,7 @@ options are those of the nodes.";
 const GATHER_AFTER: &str = "Example, of two partitions whose nodes gave 0.hbck and 1.hbck:
   { cat edges.tsv; echo %%
     for p in 0 1; do echo part $(wc -c < $p.hbck); cat $p.hbck; done; } |
-    hyperball gather --parts 2 > report.csv
+    hyperball gather --parts 2 --estimate corrected > report.csv
 
 Cores:
   The figures take all cores, or as many threads as --threads says: 2 on a machine that others use,
@@ -121,7 +121,6 @@ pub fn gather_by<H: AllocGlobal + Threads + Sync, T: Teller, R: CountedRead, W: 
         (writes_of W.contents W.failed_calls writer.old writer.new)) }
 {
     let watch = TellingWatch::new(server.teller);
-    watch.before_read(&words.job.options);
     gather(server.rt, state, &words.job, &watch, reader, writer)?;
     watch.after_gathering();
     Ok(())

@@ -29,7 +29,7 @@ const LIMIT_HELP: &str =
     "Greatest superstep, 1 to 4096; a run ends sooner if nothing changes [default: 4096]";
 
 const ESTIMATE_HELP: &str =
-    "raw: far too large for small sets; corrected: near the true size for all [default: raw]";
+    "raw: HyperLogLog's own formula, far too large for small sets; corrected: near the true size [default: raw]";
 
 const DELIMITER_HELP: &str = "What is between the two fields of a line [default: tab]";
 

@@ -39,11 +39,11 @@ line %% come before the commands. All nodes of a job get the same input up to th
 same options but --part.";
 
 const NODE_AFTER: &str = "Example, of a job of one partition:
-  printf 'a\\tb\\nb\\tc\\n%%%%\\nclose\\ntotals\\n' | hyperball node --log2m 4
+  printf 'a\\tb\\nb\\tc\\n%%%%\\nclose\\ntotals\\n' | hyperball node --log2m 4 --estimate corrected
   answers
     closed 1
-    superstep,0,33.803869
-    superstep,1,34.851860
+    superstep,0,3.000000
+    superstep,1,5.133332
 
 Commands, one on a line, and their answers. T is a superstep, P and Q are partitions, and L is how
 many bytes follow the line.
@@ -144,7 +144,6 @@ pub fn node_by<H: AllocGlobal, T: Teller, R: CountedRead, W: CountedWrite>(
         (writes_of W.contents W.failed_calls writer.old writer.new)) }
 {
     let watch = TellingWatch::new(server.teller);
-    watch.before_read(&words.job.options);
     serve_node(
         server.rt.alloc(),
         state,

@@ -52,7 +52,7 @@ reachable (the estimated number of vertices that can reach it, itself included),
 centrality, closeness, Lin's index, and the number of registers that are empty.";
 
 const RUN_AFTER: &str = "Example:
-  hyperball run --log2m 8 < edges.tsv > report.csv
+  hyperball run --log2m 8 --estimate corrected < edges.tsv > report.csv
   The input is always standard input: a file is handed over by the shell, with '<'.
 
 Memory and accuracy:
@@ -79,7 +79,11 @@ Large edge lists:
 
 Refusals:
   Faults of the edge list are reported first: --log2m, --parts and --limit that are out of range
-  are refused only once all of it was read. With --progress a line says so at the start.
+  are refused only once all of it was read. A line on standard error says so at the start.
+
+Hints:
+  If no line has two fields and each has another delimiter, or the input begins as a gzip or a
+  Matrix Market file, a line on standard error says so. Report and exit status stay as they are.
 
 Figures:
   Harmonic centrality 0.000000 with Lin's index 1.000000: nobody else that counts gets there.
@@ -443,7 +447,6 @@ pub fn run_by<
     let Ok(gate) = TellingGate::new(rt.alloc(), rt, teller, options.parts) else {
         return Err(RunFault::Gate);
     };
-    gate.before_run(options);
     let state = random_state(rt)?;
     let answer = if words.counted {
         let job = Job {
