@@ -306,7 +306,8 @@ def growth_refused(shim):
     """The table of guesses, which grows after 131,072 labels, is left as it is where memory for a larger one is refused: one
     of these allocations is done without, and the report is the same; each of the others ends the run."""
     data, words = "".join(f"{v}\n" for v in range(140000)).encode(), ["run", "--log2m", "4", "--threads", "1"]
-    report, bad, spared, calls = ran(words, data)[1], [], 0, range(131200, 131350)
+    first = 131072 + how_many(words, b"0\n", shim, "REFUSE_ALLOC")
+    report, bad, spared, calls = ran(words, data)[1], [], 0, range(first, first + 150)
     for call in calls:
         answer, reached = without(words, data, shim, "REFUSE_ALLOC", call)
         spared += reached and answer == (0, report, b"")
