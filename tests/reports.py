@@ -87,7 +87,7 @@ def graph_of(number, seed):
     chance = random.Random(f"{number} {seed}")
     name, delimiter = chance.choice(list(DELIMITERS.items()))
     bytes_ = [it for it in [*b'ab0 ,\t"#%\x00\x80\xff', chance.randrange(256)] if bytes([it]) not in (delimiter, b"\r", b"\n")]
-    labels = list({bytes(chance.choices(bytes_, k=chance.choice([1, 2, 3, 20]))) for _ in range(chance.choice([1, 3, 10, 40]))})
+    labels = sorted({bytes(chance.choices(bytes_, k=chance.choice([1, 2, 3, 20]))) for _ in range(chance.choice([1, 3, 10, 40]))})
     text = list_of(chance, delimiter, labels, 2)
     words = [f"--delimiter={name}", "--estimate", chance.choice(["raw", "corrected"]), f"--log2m={chance.randrange(4, 11)}"]
     words += ["--seed", str(chance.choice([0, 1, chance.randrange(2**64), 2**64 - 1]))]
