@@ -433,21 +433,21 @@ def refusals(shim):
 
 
 REFUSED_CALLS = (
-    ("gapcode", "refusals::calls_where_memory_is_refused"),
-    ("batches", "refusals::calls_where_memory_is_refused"),
-    ("edgelist", "refusals::calls_where_memory_is_refused"),
-    ("replica", "refusals::calls_where_memory_is_refused"),
-    ("replica", "threads::indexes_whose_memory_is_refused"),
-    ("checkpoint", "refusals::calls_where_memory_is_refused"),
-    ("checkpoint", "refusals::writing_asks_for_no_memory"),
-    ("report", "refusals::calls_where_memory_is_refused"),
-    ("board", "calls::calls_where_memory_is_refused"),
-    ("board", "opened::boards_whose_memory_is_refused"),
-    ("world", "refusals::events_whose_memory_is_refused"),
-    ("world", "refusals::replays_whose_memory_is_refused"),
-    ("workers", "refusals::nodes_whose_memory_is_refused"),
-    ("workers", "refusals::a_run_whose_memory_is_refused"),
-    ("hyperball", "refusals::words_whose_memory_is_refused"),
+    ("base_tests", "of_gapcode::refusals::calls_where_memory_is_refused"),
+    ("base_tests", "of_batches::refusals::calls_where_memory_is_refused"),
+    ("edgelist", "tests::refusals::calls_where_memory_is_refused"),
+    ("replica", "tests::refusals::calls_where_memory_is_refused"),
+    ("replica", "tests::threads::indexes_whose_memory_is_refused"),
+    ("checkpoint", "tests::refusals::calls_where_memory_is_refused"),
+    ("checkpoint", "tests::refusals::writing_asks_for_no_memory"),
+    ("report", "tests::refusals::calls_where_memory_is_refused"),
+    ("board", "tests::calls::calls_where_memory_is_refused"),
+    ("board", "tests::opened::boards_whose_memory_is_refused"),
+    ("world", "tests::refusals::events_whose_memory_is_refused"),
+    ("world", "tests::refusals::replays_whose_memory_is_refused"),
+    ("workers", "tests::refusals::nodes_whose_memory_is_refused"),
+    ("workers", "tests::refusals::a_run_whose_memory_is_refused"),
+    ("hyperball", "tests::refusals::words_whose_memory_is_refused"),
 )
 
 
@@ -455,7 +455,7 @@ def test_ran(crate, test, **more):
     """Status, output and faults of a test as the gate built it. There has to be one of this very name."""
     tests = os.path.join(HERE, "..", "crates", crate, "out", crate + "_tests")
     try:
-        run = subprocess.run([tests, "tests::" + test], capture_output=True, timeout=60, env={**os.environ, **more})
+        run = subprocess.run([tests, test], capture_output=True, timeout=60, env={**os.environ, **more})
     except FileNotFoundError:
         return "not there", b"", b""
     except subprocess.TimeoutExpired:
@@ -479,7 +479,7 @@ def refused_calls(shim):
                 if not os.path.exists(told):
                     break
                 os.remove(told)
-        count(f"memory refused: {crate}, {test.split('::')[1]}", call, bad)
+        count(f"memory refused: {crate}, {test.removeprefix('tests::')}", call, bad)
 
 
 def lost_workers():

@@ -43,9 +43,6 @@ pub use streams::{
     CountedRead, CountedWrite, CountingReader, CountingWriter, Filled, fill, put_all,
 };
 
-#[cfg(test)]
-mod tests;
-
 /// The hash of a vertex under a seed: the step and the finalizer of SplitMix64.
 pub fn mix(seed: u64, v: u32) -> u64
     ensures { result ≡ hash_of seed v }

@@ -30,6 +30,3 @@ mod rows;
 pub use batch::Batch;
 pub use error::BatchError;
 pub use header::HEADER_LEN;
-
-#[cfg(test)]
-mod tests;

@@ -35,6 +35,3 @@ pub use lists::{Lists, ListsBuilder};
 pub use places::Places;
 pub use reader::{BitReader, get_gamma};
 pub use writer::{BitWriter, put_gamma};
-
-#[cfg(test)]
-mod tests;

@@ -44,9 +44,6 @@ pub use mask::SourceMask;
 pub use rows::{LINE, Rows, glance_over};
 pub use takes::take_over;
 
-#[cfg(test)]
-mod tests;
-
 /// Each byte of `dst` becomes the maximum of itself and the byte of `src` there; the answer is whether one changed.
 ///
 /// Both have the same length. 32 bytes are taken at once, or 16, and the loop over the rest has no branch.

@@ -1,7 +1,7 @@
 use Rattle.std.proofs.Common.{◌≡◌, ◌∙◌, ap, arith}
 use Rattle.ball_model.specs.PlanValue.{PlanValue, part_size}
 use Rattle.ball_model.proofs.PartLemmas.{part_size-is}
-use Rattle.batches.proofs.tests.refusals.is_pushed_to.Goals as goal
+use Rattle.base_tests.proofs.of_batches.refusals.is_pushed_to.Goals as goal
 
 pub start-requires-clause-changed : goal.start-requires-clause-changed
 start-requires-clause-changed c =

@@ -1,3 +1,5 @@
+//! Batches and their bytes.
+
 ghost use Rattle.std.specs.Prelude.{◌≡◌, ◌∷◌, [], false, length, IfOk};
 ghost use Rattle.ball_model.specs.Batches.{ids_of};
 
@@ -5,8 +7,8 @@ mod damage;
 mod refusals;
 mod sharing;
 
-use super::*;
 use ball_model::{BatchName, Plan, PlanError};
+use batches::{Batch, BatchError, laws};
 use std::alloc::{AllocError, Global};
 use std::test::Fail;
 

@@ -1,10 +1,14 @@
+//! Lists as bytes, single codes, and places.
+
 ghost use Rattle.std.specs.Prelude.{◌≡◌, ◌∷◌, [], IfOk};
 ghost use Rattle.gapcode.specs.Lists.{AscendsFrom};
 
 mod damage;
 mod refusals;
 
-use super::*;
+use gapcode::{
+    BitReader, BitWriter, CodeError, Elements, Lists, ListsBuilder, Places, get_gamma, put_gamma,
+};
 use std::alloc::{AllocError, Global};
 
 /// The lists [], [0] and [1], one after another.

@@ -1,4 +1,9 @@
-use super::*;
+//! Hashes, plans, names, and streams that count their failed calls.
+
+use ball_model::{
+    BatchName, CountedRead, CountedWrite, CountingReader, CountingWriter, Filled, MemReader,
+    MemWriter, NodeId, Plan, PlanError, fill, history, laws, mix, place, put_all,
+};
 use std::alloc::{AllocError, Global};
 use std::io;
 use std::io::{ErrorKind, Read, Write};

@@ -2,7 +2,7 @@ use Rattle.std.proofs.Common.{◌≡◌, ◌≤◌, ℕ, List, replicate, ap, sy
 use Rattle.std.specs.List.{All}
 use Rattle.std.proofs.lemmas.List.Elements.{All-replicate}
 use Rattle.ball_model.specs.Table.{Table}
-use Rattle.figures.proofs.tests.figures_of_many_vertices.Goals as goal
+use Rattle.base_tests.proofs.of_figures.figures_of_many_vertices.Goals as goal
 
 -- rows of zeros
 pub come_in_order-requires-clause-ranks : goal.come_in_order-requires-clause-ranks

@@ -1,5 +1,5 @@
 use Rattle.std.proofs.Common.{◌≡◌, length}
-use Rattle.registers.proofs.tests.nine_rows.Given as goal
+use Rattle.base_tests.proofs.of_registers.nine_rows.Given as goal
 
 abbrev pub invariant-loop-index : goal.invariant-loop-index
 invariant-loop-index l = record { count : length l.rows.rows ≡ 9; width : l.rows.width ≡ l.width }

@@ -6,7 +6,7 @@ use Rattle.ball_model.specs.Batches.{BatchValue, IsRow, IsBatch, ids_of}
 use Rattle.batches.specs.Kept.{rows_at}
 use Rattle.batches.proofs.KeptLemmas.{seen, batch-push}
 use Rattle.batches.proofs.HeldLemmas.{place-length}
-use Rattle.batches.proofs.tests.sharing.over.Goals as goal
+use Rattle.base_tests.proofs.of_batches.sharing.over.Goals as goal
 
 -- a batch of two rows of a table of three
 two_is : (like : BatchValue) (table : List ℕ) (p q : ℕ) → IsBatch like → like.plan.log2m ≡ 4 → like.plan.parts ≡ 2 → like.plan.vertices ≡ 5 → like.name.source ≡ 0 → like.changed ≡ 3

@@ -1,8 +1,13 @@
+//! Estimates, figures and their text.
+
 ghost use Rattle.std.specs.Prelude.{◌≡◌, ◌≤◌, length};
 ghost use Rattle.std.specs.List.{All};
 ghost use Rattle.ball_model.specs.declared.plan.TheConstants.{GREATEST_RANK};
 
-use super::*;
+use figures::{
+    Estimator, Figures, Tally, are_last, closeness, estimate, figures_within, final_figures,
+    fixed6, gain, lin, moved_weight, weight,
+};
 use registers::Rows;
 use std::alloc::Global;
 use std::ops::Range;
