@@ -29,10 +29,10 @@ ghost use Rattle.ball_model.specs.Hash.{hash_of, index_of, rank_of};
 
 pub mod history;
 pub mod laws;
-pub mod memory;
-pub mod names;
+mod memory;
+mod names;
 pub mod plan;
-pub mod streams;
+mod streams;
 pub mod world;
 
 pub use history::{Kept, Posted};

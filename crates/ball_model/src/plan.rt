@@ -6,10 +6,10 @@ use std::marker::Model;
 use thiserror::Error;
 
 /// The least binary logarithm of the number of registers: 16 registers.
-pub const LEAST_LOG2M: u8 = 4;
+pub(crate) const LEAST_LOG2M: u8 = 4;
 
 /// The greatest binary logarithm of the number of registers: 1024 registers.
-pub const GREATEST_LOG2M: u8 = 10;
+pub(crate) const GREATEST_LOG2M: u8 = 10;
 
 /// The most registers of a counter: 2 to the power of [`GREATEST_LOG2M`].
 pub const MOST_REGISTERS: usize = 1024;

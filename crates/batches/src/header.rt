@@ -12,35 +12,35 @@ use byteorder::{BigEndian, ByteOrder};
 use std::alloc::AllocError;
 
 /// `HBBT`.
-pub const MAGIC: u32 = 0x4842_4254;
+pub(crate) const MAGIC: u32 = 0x4842_4254;
 
 /// The version that is written, and the only one that is read.
-pub const VERSION: u8 = 1;
+pub(crate) const VERSION: u8 = 1;
 
 /// How many bytes the fixed fields have.
 pub const HEADER_LEN: usize = 54;
 
 /// The fixed fields as the bytes have them, not checked yet.
 #[derive(Clone, Copy)]
-pub struct Header {
+pub(crate) struct Header {
     /// [`MAGIC`] in every batch.
-    pub magic: u32,
+    pub(crate) magic: u32,
     /// [`VERSION`] in every batch.
-    pub version: u8,
+    pub(crate) version: u8,
     /// The binary logarithm of the number of registers.
-    pub log2m: u8,
+    pub(crate) log2m: u8,
     /// The superstep, the source and the target.
-    pub name: BatchName,
+    pub(crate) name: BatchName,
     /// The job digest.
-    pub job: [u8; 32],
+    pub(crate) job: [u8; 32],
     /// How many vertices of the source are changed at the superstep.
-    pub changed: u32,
+    pub(crate) changed: u32,
     /// How many rows follow.
-    pub count: u32,
+    pub(crate) count: u32,
 }
 
 /// The big-endian number of four bytes at a place.
-pub fn u32_at(bytes: &[u8], at: usize) -> u32
+pub(crate) fn u32_at(bytes: &[u8], at: usize) -> u32
     requires { at + 4 ≤ length bytes.now }
     ensures { result ≡ field w32 at bytes.now }
 {
@@ -67,7 +67,7 @@ fn job_at(bytes: &[u8]) -> [u8; 32]
 
 /// The fixed fields of bytes that are long enough.
 #[tactic(auto, unfolding(crate::specs::Reading::head_at))]
-pub fn read_header(bytes: &[u8]) -> Header
+pub(crate) fn read_header(bytes: &[u8]) -> Header
     requires { HEADER_LEN ≤ length bytes.now }
     ensures { result ≡ head_at bytes.now }
 {
@@ -88,7 +88,7 @@ pub fn read_header(bytes: &[u8]) -> Header
 
 /// The first fault of the fixed fields.
 #[tactic(auto, unfolding(crate::specs::Reading::check_head))]
-pub fn check_header(plan: &Plan, header: &Header) -> Result<(), BatchError>
+pub(crate) fn check_header(plan: &Plan, header: &Header) -> Result<(), BatchError>
     ensures { result ≡ check_head plan.now header.now }
 {
     if header.magic != MAGIC {
@@ -111,7 +111,7 @@ pub fn check_header(plan: &Plan, header: &Header) -> Result<(), BatchError>
 }
 
 /// Appends a number, big-endian.
-pub fn put_u32(out: &mut Vec<u8>, number: u32) -> Result<(), AllocError>
+pub(crate) fn put_u32(out: &mut Vec<u8>, number: u32) -> Result<(), AllocError>
     ensures { OnOk result (out.new.items ≡ out.old.items ++ to_be_bytes w32 number) }
 {
     let mut field = [0; 4];
@@ -129,7 +129,7 @@ fn set_field(bytes: &mut [u8], at: usize, field: &[u8])
 
 /// The fixed fields as bytes.
 #[tactic(auto, unfolding(crate::specs::Reading::head_bytes))]
-pub fn spell_header(header: &Header) -> [u8; HEADER_LEN]
+pub(crate) fn spell_header(header: &Header) -> [u8; HEADER_LEN]
     ensures { result ≡ head_bytes header.now }
 {
     let name = header.name;

@@ -14,7 +14,7 @@ use std::sync::Arc;
 
 /// The registers of rows.
 #[derive(Drop)]
-pub enum Registers {
+pub(crate) enum Registers {
     /// They are the rows' own: one row after another.
     Own(Vec<u8>),
     /// They lie in a table that others share, each row at its place.
@@ -23,7 +23,7 @@ pub enum Registers {
 
 /// The registers of row `i` of rows of `width` registers.
 #[inline]
-pub fn row_in(registers: &Registers, width: usize, i: usize) -> &[u8]
+pub(crate) fn row_in(registers: &Registers, width: usize, i: usize) -> &[u8]
     requires lie { LieIn width registers.now }
     requires width { 0 < width }
     requires room { (i + 1) * width ≤ length (flat_of width registers.now) }
@@ -48,7 +48,7 @@ fn copied(alloc: Global, table: &[u8], width: usize, places: &[u32]) -> Result<V
 }
 
 /// Appends a row to vertices and to registers, or leaves both as they are. Rows of a table are made own ones first.
-pub fn push_onto(
+pub(crate) fn push_onto(
     ids: &mut Vec<u32>,
     registers: &mut Registers,
     width: usize,
@@ -76,7 +76,7 @@ pub fn push_onto(
 }
 
 /// Takes room for so many more registers at once, if they are the rows' own.
-pub fn reserve(registers: &mut Registers, more: usize) -> Result<(), AllocError>
+pub(crate) fn reserve(registers: &mut Registers, more: usize) -> Result<(), AllocError>
     ensures same { (m : ℕ) → flat_of m registers.new ≡ flat_of m registers.old }
     ensures lie { (m : ℕ) → LieIn m registers.old → LieIn m registers.new }
 {
@@ -87,7 +87,7 @@ pub fn reserve(registers: &mut Registers, more: usize) -> Result<(), AllocError>
 }
 
 /// Appends rows of `width` registers as bytes.
-pub fn put_rows(
+pub(crate) fn put_rows(
     out: &mut Vec<u8>,
     width: usize,
     ids: &[u32],

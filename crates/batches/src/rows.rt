@@ -36,7 +36,7 @@ fn has_above(registers: &[u8]) -> bool
 
 /// Whether rows have the length that is wanted.
 #[tactic(auto, unfolding(crate::specs::Reading::check_length))]
-pub fn check_len(wanted: usize, len: usize) -> Result<(), BatchError>
+pub(crate) fn check_len(wanted: usize, len: usize) -> Result<(), BatchError>
     ensures exact { result ≡ check_length wanted len }
     ensures equal { OnOk result (len ≡ wanted) }
 {
@@ -74,7 +74,12 @@ fn check_first_row(plan: &Plan, source: u16, least: u32, bytes: &[u8]) -> Result
 }
 
 /// The first fault of the rows, row by row.
-pub fn check_body(plan: &Plan, source: u16, count: u32, body: &[u8]) -> Result<(), BatchError>
+pub(crate) fn check_body(
+    plan: &Plan,
+    source: u16,
+    count: u32,
+    body: &[u8],
+) -> Result<(), BatchError>
     requires { count * (4 + 2 ^ plan.now.log2m) ≤ length body.now }
     ensures { result ≡
         check_rows plan.now source 0 (first_rows (2 ^ plan.now.log2m) count body.now) }
@@ -92,7 +97,7 @@ pub fn check_body(plan: &Plan, source: u16, count: u32, body: &[u8]) -> Result<(
 }
 
 /// The registers of row `i` of rows of `width` registers.
-pub fn row_of(registers: &[u8], width: usize, i: usize) -> &[u8]
+pub(crate) fn row_of(registers: &[u8], width: usize, i: usize) -> &[u8]
     requires { (i + 1) * width ≤ length registers.now }
     ensures { result.now ≡ take width (drop (i * width) registers.now) }
 {
@@ -102,7 +107,7 @@ pub fn row_of(registers: &[u8], width: usize, i: usize) -> &[u8]
 }
 
 /// Appends a row to vertices and to registers, or leaves both as they are.
-pub fn push_row(
+pub(crate) fn push_row(
     ids: &mut Vec<u32>,
     registers: &mut Vec<u8>,
     id: u32,
@@ -146,7 +151,7 @@ fn read_each(
 }
 
 /// Reads rows of `width` registers: their vertices and their registers.
-pub fn read_rows(
+pub(crate) fn read_rows(
     alloc: Global,
     width: usize,
     count: u32,

@@ -33,7 +33,7 @@ fn pass_elements(bytes: &[u8], place: u128, count: u64, bound: u64) -> Result<u1
 
 /// The place after a list.
 #[tactic(auto, unfolding(crate::specs::Lists::list_at))]
-pub fn pass_list(bytes: &[u8], place: u128, bound: u64) -> Result<u128, CodeError>
+pub(crate) fn pass_list(bytes: &[u8], place: u128, bound: u64) -> Result<u128, CodeError>
     requires inside { place ≤ 8 * length bytes.now }
     requires bound { bound ≤ 2 ^ 32 }
     ensures exact { from_place (bits_of bytes.now) result
@@ -91,7 +91,7 @@ fn pass_end(bytes: &[u8], place: u128) -> Result<(), CodeError>
 }
 
 /// Whether the bytes spell that many lists of numbers below the bound, or the first fault.
-pub fn check(bytes: &[u8], count: usize, bound: u32) -> Result<(), CodeError>
+pub(crate) fn check(bytes: &[u8], count: usize, bound: u32) -> Result<(), CodeError>
     ensures { result ≡ result_and (all_of bound count bytes.now) (Ok tt) }
 {
     let end = pass_lists(bytes, count, bound as u64)?;

@@ -33,7 +33,7 @@ fn padded(tail: &[u8]) -> [u8; 9]
 }
 
 /// The next 64 bits, with zero bits past the end.
-pub fn next_word(bytes: &[u8], position: u32) -> u64
+pub(crate) fn next_word(bytes: &[u8], position: u32) -> u64
     requires { position ≤ 8 * length bytes.now }
     ensures { digits most_digits result ≡ window_of (bits_from bytes.now position) }
 {
@@ -81,7 +81,7 @@ fn any_code(bytes: &[u8], position: u32) -> Result<(u64, u32), CodeError>
 /// The number whose code begins in the first byte, at this bit, and the place after it.
 ///
 /// It looks at 64 bits at once, and from 32 zero bits on at 64 more, never bit by bit.
-pub fn code_at(bytes: &[u8], position: u32) -> Result<(u64, u32), CodeError>
+pub(crate) fn code_at(bytes: &[u8], position: u32) -> Result<(u64, u32), CodeError>
     requires first { position < 8 }
     requires inside { position ≤ 8 * length bytes.now }
     ensures exact { with_rest_at (bits_of bytes.now) result
@@ -99,7 +99,7 @@ pub fn code_at(bytes: &[u8], position: u32) -> Result<(u64, u32), CodeError>
 }
 
 /// The number whose code begins at this bit of all, and the place after it.
-pub fn code_from(bytes: &[u8], place: u128) -> Result<(u64, u128), CodeError>
+pub(crate) fn code_from(bytes: &[u8], place: u128) -> Result<(u64, u128), CodeError>
     requires { place ≤ 8 * length bytes.now }
     ensures exact { with_rest_at (bits_of bytes.now) result ≡ gamma_at (bits_from bytes.now place) }
     ensures inside { IfOk result (λ found. found.1 ≤ 8 * length bytes.now) }

@@ -100,7 +100,7 @@ impl Places {
 }
 
 /// The places, and after them others, each of these so much further on. The error is that memory was refused.
-pub fn moved_behind(places: Places, others: &Places, by: u128) -> Result<Places, AllocError>
+pub(crate) fn moved_behind(places: Places, others: &Places, by: u128) -> Result<Places, AllocError>
     requires last { slice_index places (length places - 1) ≤ by }
     requires others { IsAscending (2 ^ 95) 0 others.now }
     requires by { by < 2 ^ 95 }

@@ -190,7 +190,7 @@ pub fn put_gamma(writer: &mut BitWriter, x: u64) -> Result<(), AllocError>
 /// Appends the first bits of bytes, so many.
 ///
 /// The error is that memory was refused.
-pub fn put_bits(writer: &mut BitWriter, bytes: &[u8], count: u128) -> Result<(), AllocError>
+pub(crate) fn put_bits(writer: &mut BitWriter, bytes: &[u8], count: u128) -> Result<(), AllocError>
     requires { count ≤ 8 * length bytes.now }
     ensures ok { OnOk result (writer.new ≡ writer.old ++ take count (bits_of bytes.now)) }
     ensures err { OnErr result (writer.new ≡ writer.old) }

@@ -29,11 +29,11 @@ ghost use Rattle.std.specs.Prelude.{◌≡◌, ◌↔◌, length, false};
 ghost use Rattle.ball_model.specs.Counter.{max_each};
 
 mod eight;
-pub mod join;
+mod join;
 mod lanes;
-pub mod marks;
-pub mod mask;
-pub mod rows;
+mod marks;
+mod mask;
+mod rows;
 mod takes;
 
 pub use eight::raise_by_eight;
