@@ -29,18 +29,17 @@ ghost use Rattle.ball_model.specs.Hash.{hash_of, index_of, rank_of};
 
 pub mod history;
 pub mod laws;
-mod memory;
 mod names;
 pub mod plan;
 mod streams;
 pub mod world;
 
 pub use history::{Kept, Posted};
-pub use memory::{MemReader, MemWriter};
 pub use names::{BatchName, CloseError, MergeError, NodeId, TakeError, Taken, Verdict};
 pub use plan::{Estimate, Plan, PlanError};
 pub use streams::{
-    CountedRead, CountedWrite, CountingReader, CountingWriter, Filled, fill, put_all,
+    CountedRead, CountedWrite, CountingReader, CountingWriter, Filled, MemReader, MemWriter, fill,
+    put_all,
 };
 
 /// The hash of a vertex under a seed: the step and the finalizer of SplitMix64.

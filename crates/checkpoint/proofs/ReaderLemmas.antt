@@ -14,8 +14,8 @@ use Rattle.std.specs.Str.{bytes_eq}
 use Rattle.std.proofs.lemmas.Slice.Eq.{bytes_eq-Decides}
 use Rattle.sha2.specs.Sha256.{sha256}
 use Rattle.graph.proofs.LabelLemmas.{text_same}
-use Rattle.ball_model.specs.declared.streams.Filled.{Filled}
-use Rattle.ball_model.specs.declared.streams.Filled.TheVariants as filled
+use Rattle.ball_model.specs.declared.streams.whole.Filled.{Filled}
+use Rattle.ball_model.specs.declared.streams.whole.Filled.TheVariants as filled
 use Rattle.ball_model.specs.Job.{PartValue}
 use Rattle.ball_model.specs.Streams.{AfterAtMost, AreSure, EndsAfter, TakesAtMost, RisesByOne}
 use Rattle.ball_model.proofs.StreamLemmas.{after_none}
