@@ -1,4 +1,4 @@
--- Batches: what a partition tells another of a superstep (Pregel 2010), and how each is spelled.
+-- Batches: what a partition sends another for a superstep (Pregel 2010), and how each is spelled.
 use Rattle.std.specs.Prelude.{◌≡◌, ℕ, ◌%◌, ◌^◌, ◌<◌, ◌≤◌, ◌==◌, ◌&&◌, List, [], ◌∷◌, ◌++◌, map, length, Option, None, Some, if◌then◌else◌, codes}
 use Rattle.std.specs.List.{filter, count_by, All, flat_map}
 use Rattle.std.specs.List.Sorted.{IsStrictlyIncreasing}
@@ -9,7 +9,7 @@ use Rattle.ball_model.specs.Change.{changed_at}
 use Rattle.ball_model.specs.PlanValue.{PlanValue, IsPlan, mixing_of, vertices_of, part_size}
 use Rattle.ball_model.specs.Job.{Job, feeds_into}
 
--- what the source of a name tells its target of the superstep: the number of the source's changed vertices, and rows
+-- what the source of a name sends its target for the superstep: the number of the source's changed vertices, and rows
 -- of a vertex and its registers
 pub record BatchValue : Type 0 where
   pub plan : PlanValue

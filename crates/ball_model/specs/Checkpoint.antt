@@ -57,8 +57,8 @@ table_bytes v =
 abbrev pub early_bytes : BatchValue → List ℕ
 early_bytes b = to_be_bytes w64 (length (batch_bytes b)) ++ batch_bytes b
 
--- what version 2 has of the batches that are held: of the superstep the sources, whether one of them tells of a change,
--- and the accumulators; and how many batches of later supersteps are kept, and each
+-- what version 2 has of the batches that are held: of the superstep the sources, whether one of them has a changed
+-- vertex, and the accumulators; and how many batches of later supersteps are kept, and each
 unfoldable pub held_bytes : State → List ℕ
 held_bytes v =
     to_be_bytes w64 (mask_of v.heard) ++ (mark_byte v.heard_change ∷ [])
@@ -74,7 +74,7 @@ sealed bytes = bytes ++ sha256 bytes
 unfoldable pub checkpoint_bytes : State → List ℕ
 checkpoint_bytes v = sealed (front_bytes 2 v ++ table_bytes v ++ held_bytes v)
 
--- its spelling in version 1, which tells nothing of batches
+-- its spelling in version 1, which has nothing of batches
 unfoldable pub first_checkpoint_bytes : State → List ℕ
 first_checkpoint_bytes v = sealed (front_bytes 1 v ++ table_bytes v)
 

@@ -36,7 +36,7 @@ pub record IsHeldBy (j : Job) (p : ℕ) (h : Holding) : Type 0 where
   pub below : p < j.plan.parts
   pub holding : IsHolding h
 
--- the name of a batch that one partition of the plan may tell another
+-- the name of a batch that one partition of the plan may send another
 pub record IsName (plan : PlanValue) (name : BatchName) : Type 0 where
   pub superstep : name.superstep ≤ plan.limit
   pub source : name.source < plan.parts

@@ -13,7 +13,7 @@ use Rattle.ball_model.specs.Join.{Holding, holding_of}
 use Rattle.ball_model.specs.State.{State, content_of}
 
 -- a call that changes or finds something, with its reply: a batch of that name is posted; it is found; a content is
--- kept; the content kept for a partition is found, and its superstep is at least so much; names below a superstep go
+-- kept; the content kept for a partition is found, and its superstep is at least that; names below a superstep go
 pub data HistoryEvent : Type 0 where
   Post : BatchName → Posted → HistoryEvent
   Fetch : BatchName → HistoryEvent

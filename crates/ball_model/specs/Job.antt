@@ -29,7 +29,8 @@ job_bytes plan g =
 unfoldable pub counted_bytes : Graph → List ℕ
 counted_bytes g = to_be_bytes w32 (length g.counted) ++ flat_map (λ v. to_be_bytes w32 v) g.counted
 
--- a magic with the number of the first form or of the second: of a job with raw estimates, and of one with corrected ones
+-- a magic with the number of the first form or of the second: of a job with raw estimates, and of one with corrected
+-- ones
 abbrev pub first_magic : Bool → List ℕ
 first_magic corrected = if corrected then codes "HBC1" else codes "HBJ1"
 

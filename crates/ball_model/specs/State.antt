@@ -13,7 +13,7 @@ use Rattle.ball_model.specs.Content.{Content}
 
 -- a replica: its part, its superstep, for each of its vertices the registers, whether they changed and the figures,
 -- the sums of its estimates at each superstep so far; of its superstep which sources it has heard, whether one of them
--- tells of a changed vertex, and for each of its vertices the registers accumulated so far; and for each of the
+-- has a changed vertex, and for each of its vertices the registers accumulated so far; and for each of the
 -- supersteps that follow, by source, the batch that it keeps
 pub record State : Type 0 where
   pub part : PartValue

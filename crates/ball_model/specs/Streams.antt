@@ -22,7 +22,7 @@ abbrev pub Puts : Option (List ℕ) → Option (List ℕ) → Option ℕ → Lis
 Puts old new told bytes =
     IfSome told (λ n. Appends old new (take n bytes)) × IfNone told (Keeps old new)
 
--- of the next calls that are sure to go well (None: of all calls), so many are left after one
+-- how many calls are sure to go well (None: all), once one more was made
 abbrev pub after_call : Option ℕ → Option ℕ
 after_call sure = option_map (λ n. n - 1) sure
 

@@ -38,7 +38,7 @@ pub record World : Type 0 where
 abbrev pub start_node : PlanValue → ℕ → Node
 start_node plan p = record { content = start_holding plan p; kept = None }
 
--- the start of a world with so many replicas of each partition
+-- the start of a world with that many replicas of each partition
 unfoldable pub start_world : PlanValue → ℕ → World
 start_world plan replicas = record {
   nodes = map (λ p. replicate replicas (start_node plan p)) (range_with_len 0 plan.parts);
@@ -79,7 +79,7 @@ node_of (event.Copy id) = id
 node_of (event.Recover id c) = id
 node_of (event.Show id) = id
 
--- the name of what a node tells a partition
+-- the name of what a node sends a partition
 abbrev pub name_to : Node → ℕ → BatchName
 name_to n q = record {
   superstep = n.content.superstep;

@@ -1,4 +1,4 @@
--- Lists of events that tell a story each, and what they answer. Each is a clause of a function of src/world.rt.
+-- Lists of events, each a short story, and what they answer. Each is a clause of a function of src/world.rt.
 use Rattle.std.specs.Prelude.{◌≡◌, ℕ, false, [], ◌∷◌, Ok, Err}
 use Rattle.ball_model.specs.declared.names.BatchName.{BatchName}
 use Rattle.ball_model.specs.declared.names.NodeId.{NodeId}
@@ -17,7 +17,7 @@ use Rattle.ball_model.specs.World.{start_world, answers_of}
 abbrev pub node : ℕ → ℕ → NodeId
 node p k = record { part = p; replica = k }
 
--- what partition q tells partition p of superstep s
+-- the name of what partition q sends partition p for superstep s
 abbrev pub name : ℕ → ℕ → ℕ → BatchName
 name s q p = record { superstep = s; source = q; target = p }
 
@@ -33,7 +33,7 @@ plan parts n = record {
   job = [];
 }
 
--- the path over three vertices, dealt out to so many partitions
+-- the path over three vertices, dealt out to that many partitions
 abbrev pub three : ℕ → Job
 three parts = record {
   graph = record {

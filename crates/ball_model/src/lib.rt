@@ -2,13 +2,14 @@
 //!
 //! A [`Plan`] says how many registers a counter has, under which seed vertices are hashed, among how many partitions
 //! they are dealt out, and after how many supersteps a run stops at the latest. A vertex is hashed by [`mix`], and
-//! [`place`] reads a register and a rank off the hash. A [`BatchName`] names what a partition tells another of a
+//! [`place`] reads a register and a rank off the hash. A [`BatchName`] names what a partition sends another for a
 //! superstep. An [`Event`](world::Event) is what happens in a world of replicas. The functions of [`laws`], of
 //! [`history`] and of [`world`] do nothing: the contract of each is a law of the definitions.
 //!
-//! [`CountingReader`] and [`CountingWriter`] are streams whose failed calls a contract sees, by [`CountedRead`] and
-//! [`CountedWrite`]; [`MemReader`] and [`MemWriter`] are such streams over memory, which fail where one wants them to
-//! and nowhere else. [`put_all`] writes all of some bytes, and [`fill`] reads until a buffer is full or the input ends.
+//! Only crates that read or write text use the streams. By [`CountedRead`] and [`CountedWrite`] a contract sees how
+//! many calls failed: [`CountingReader`] and [`CountingWriter`] count those of a stream inside, and [`MemReader`] and
+//! [`MemWriter`] are streams over memory that fail from a chosen call on. [`put_all`] writes all of some bytes, and
+//! [`fill`] reads until a buffer is full or the input ends.
 //!
 //! ```text
 //! let plan = Plan::new(4, 0, 3, 100, 8, job)?;

@@ -5,14 +5,14 @@ ghost use Rattle.ball_model.specs.Names.{stands_before, node_stands_before};
 
 use thiserror::Error;
 
-/// The name of a batch: what partition `source` tells partition `target` of a superstep.
+/// The name of a batch: what partition `source` sends partition `target` for a superstep.
 ///
 /// Names ascend by superstep, then by source, then by target.
 #[derive(Clone, Copy, Debug, PartialEq, Eq, PartialOrd, Ord)]
 pub struct BatchName {
     /// The superstep whose changes the batch has, from 0 up to the plan's limit.
     pub superstep: u32,
-    /// The number of the partition that tells, from 0 on.
+    /// The number of the partition that sends it, from 0 on.
     pub source: u16,
     /// The number of the partition that it is sent to, from 0 on.
     pub target: u16,
@@ -80,7 +80,7 @@ pub enum TakeError {
     /// The batch's target is not the replica's partition.
     #[error("the batch is for another partition")]
     NotMine,
-    /// The batch's source is the replica's partition, which tells itself nothing.
+    /// The batch's source is the replica's partition, which sends itself nothing.
     #[error("the batch is of the replica's own partition")]
     OwnPartition,
     /// A replica takes batches of its superstep and of the three that follow, up to `last`.

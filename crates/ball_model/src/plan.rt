@@ -121,8 +121,8 @@ impl Plan {
       part_size,
     };
 
-    /// The plan with raw estimates, or the first of its faults: 4 to 10 for log2m, 1 to 64 partitions, a limit of 1 to 4096
-    /// supersteps, and at most 2^24 vertices.
+    /// The plan with raw estimates, or its first fault: log2m has to be from 4 to 10, parts from 1 to 64, the limit
+    /// from 1 to 4096, and there may be at most 2^24 vertices.
     pub fn new(
         log2m: u8,
         seed: u64,
@@ -144,7 +144,7 @@ impl Plan {
         Plan::within(USUAL_VERTICES, log2m, seed, parts, limit, vertices, job)
     }
 
-    /// The plan with raw estimates over a large graph, of at most 2^31 vertices, or the first of its faults, in the order of
+    /// The plan with raw estimates over a large graph, of at most 2^31 vertices, or its first fault, in the order of
     /// [`Plan::new`].
     pub fn large(
         log2m: u8,
@@ -167,7 +167,6 @@ impl Plan {
         Plan::within(MOST_VERTICES, log2m, seed, parts, limit, vertices, job)
     }
 
-    // The plan over at most that many vertices, or the first of its faults.
     fn within(
         most: u32,
         log2m: u8,
@@ -211,7 +210,7 @@ impl Plan {
         })
     }
 
-    /// Does nothing. Its contract tells the limits of every plan, for proofs.
+    /// Does nothing: its contract states the limits of every plan, for proofs.
     #[inline(always)]
     pub fn limits(&self)
         ensures { IsPlan self.now }

@@ -41,7 +41,7 @@ pub enum Event {
 /// What an event answers that is not refused.
 #[derive(Clone, Copy, Debug, PartialEq, Eq)]
 pub enum Answer {
-    /// The number of the message, its name, of how many changed vertices it tells, and how many rows it has.
+    /// The number of the message, its name, how many vertices of its source are changed, and how many rows it has.
     Sent {
         message: u64,
         name: BatchName,
@@ -150,7 +150,7 @@ pub fn restart_gives_kept()
     ensures { RestartGivesKept }
 {}
 
-/// What the definitions answer to lists of events that tell a story each.
+/// What the definitions answer to some lists of events, each a short story.
 pub fn stories()
     ensures early { EarlyBatch }
     ensures repeated { RepeatedBatch }

@@ -120,7 +120,7 @@ fn large_plan_checks(rt: HostRuntime) {
     assert_eq!(rt; first_of_another_large_refusal(), None);
 }
 
-// Whether a plan tells its numbers, the width and a vertex's partition; its digest, and that of one with another.
+// Whether a plan returns its numbers, the width and a vertex's partition; its digest, and that of one with another.
 fn tells(plan: &Plan) -> bool {
     plan.log2m() == 5
         && plan.seed() == 42
@@ -156,7 +156,7 @@ fn has_sizes(plan: &Plan, sizes: &[u32]) -> bool {
     sizes.len() == plan.parts() as usize
 }
 
-// Whether so many vertices among so many partitions make these sizes.
+// Whether that many vertices among that many partitions make these sizes.
 fn are_sizes(parts: u16, vertices: u32, sizes: &[u32]) -> bool {
     match Plan::new(4, 0, parts, 1, vertices, [0; 32]) {
         Ok(plan) => has_sizes(&plan, sizes),
@@ -238,8 +238,8 @@ fn names_and_nodes_ascend(rt: HostRuntime) {
     assert_eq!(rt; (names_ascend(), nodes_ascend()), (true, true));
 }
 
-// A stream that moves one byte a call, and whose calls fail from one on, up to another that goes well again. A write that
-// fails tells an error, or takes nothing.
+// A stream that moves one byte a call, and whose calls fail from one on, up to another from which they go well again. A
+// write that fails answers an error, or takes nothing.
 #[derive(Drop)]
 struct Slow {
     calls: u64,
@@ -258,7 +258,7 @@ fn failing_from(fails_at: u64) -> Slow {
     }
 }
 
-// The first call fails, and tells an error, and later ones go well.
+// The first call fails with an error, and later ones go well.
 fn hiccup() -> Slow {
     Slow {
         calls: 0,
@@ -512,7 +512,7 @@ fn puts_five(writer: &mut MemWriter) -> (bool, bool, u64) {
     (all, writer.try_flush(), writer.failures())
 }
 
-// Puts five bytes in a writer with so much room that fails at this call, and tells whether it holds these bytes then.
+// Puts five bytes in a writer with this room that fails at this call, and returns whether it then holds these bytes.
 fn put_in_room(
     alloc: Global,
     room: usize,

@@ -21,7 +21,7 @@ const JOB: [u8; 32] = [
 /// The counter of vertex 0 alone: register 14 has rank 3.
 const ROW: [u8; 16] = [0, 0, 0, 0, 0, 0, 0, 0, 0, 0, 0, 0, 0, 0, 3, 0];
 
-/// What partition 0 tells partition 1 of superstep 0.
+/// The name of what partition 0 sends partition 1 for superstep 0.
 const NAME: BatchName = BatchName {
     superstep: 0,
     source: 0,
@@ -92,7 +92,7 @@ fn tells_two(batch: &Batch) -> bool
         && batch.length() == 94
 }
 
-/// Whether a batch with the row of vertex 0 tells two rows once that of vertex 2 is added.
+/// Whether a batch with the row of vertex 0 has two rows once that of vertex 2 is added.
 fn is_told(batch: &mut Batch) -> bool
     requires plan { (batch.old.plan.log2m ≡ 4) × (batch.old.plan.parts ≡ 2) × (batch.old.plan.vertices ≡ 3) }
     requires name { (batch.old.name.source ≡ 0) × (batch.old.changed ≡ 2) }
@@ -120,7 +120,7 @@ fn is_spelled(alloc: Global, batch: &Batch) -> bool {
     }
 }
 
-/// Whether the batch with one row is written, with its header alone too, and tells two rows once there are two.
+/// Whether the batch with one row is written, with its header alone too, and has two rows once one is added.
 fn is_written_and_told(alloc: Global) -> Result<bool, Fail> {
     let mut batch = one_row(alloc)?;
     Ok(is_spelled(alloc, &batch) & has_header(&batch) & is_told(&mut batch))
@@ -132,7 +132,7 @@ fn batch_is_written_and_told(rt: HostRuntime) -> Result<(), Fail> {
     Ok(())
 }
 
-/// Whether a batch tells its name, the numbers of changed vertices and of rows, its own job, and the row of vertex 0.
+/// Whether a batch returns its name, the numbers of changed vertices and of rows, its own job, and the row of vertex 0.
 fn tells_one(batch: &Batch) -> bool {
     batch.name() == NAME
         && batch.changed() == 2
@@ -257,8 +257,8 @@ fn of_two(first: u8, second: u8) -> [u8; 94] {
     all
 }
 
-/// How many rows are read of one byte more than the batch has; of two rows that ascend, that descend, and that are of one
-/// vertex; and of a batch from partition 1 to itself that has none.
+/// How many rows are read of one byte more than the batch has; of two rows that ascend, that descend, and that are of
+/// one vertex; and of a batch from partition 1 to itself that has none.
 fn row_counts(alloc: Global, plan: &Plan) -> [Result<u32, BatchError>; 5] {
     let own = with(&[(11, 1), (49, 1), (53, 0)]);
     let (header, _) = own.split_at(54);

@@ -379,7 +379,7 @@ fn are_in_order(figures: &[Figures]) -> bool {
             .all(|(i, f)| f.harmonic == i as u64)
 }
 
-// The figures of vertices come in the order of their tallies, by so many threads at most.
+// The figures of vertices come in the order of their tallies, by at most that many threads.
 fn come_by<H: AllocGlobal + Threads + Sync>(
     rt: &H,
     rows: &Rows,

@@ -268,13 +268,13 @@ fn coded(alloc: Global, numbers: &[u64]) -> Result<(Vec<u8>, u128), AllocError> 
     Ok((writer.finish(), len))
 }
 
-// Whether bytes are read as these numbers, in so many bits.
+// Whether bytes are read as these numbers, in `len` bits.
 fn are_read(bytes: &[u8], numbers: &[u64], len: u128) -> bool {
     let mut reader = BitReader::new(bytes);
     are_next(&mut reader, numbers) && reader.position() == len
 }
 
-// Writes these numbers and reads them again, and tells whether they were the same.
+// Writes these numbers and reads them again, and returns whether they are the same.
 fn come_back(alloc: Global, numbers: &[u64]) -> Result<bool, CodeError> {
     let (bytes, len) = coded(alloc, numbers)?;
     Ok(are_read(&bytes, numbers, len))

@@ -25,7 +25,7 @@ use std::sync::Arc;
 /// For how many rows a new batch takes room at once.
 const FIRST_ROWS: u32 = 4;
 
-/// What a partition tells another of a superstep (Pregel 2010).
+/// What a partition sends another for a superstep (Pregel 2010).
 ///
 /// A batch has the registers of those vertices of its source that are changed at its superstep and have an edge
 /// into its target, ascending, and the number of all vertices of the source that are changed. It is for one plan.
@@ -129,7 +129,7 @@ impl Batch {
         Ok(())
     }
 
-    /// Takes room for so many more rows at once; the batch stays as it was. The error is that memory was refused.
+    /// Takes room for `rows` more rows at once; the batch stays as it was. The error is that memory was refused.
     pub fn reserve(&mut self, rows: u32) -> Result<(), AllocError>
         ensures { self.new ≡ self.old }
     {
@@ -147,7 +147,7 @@ impl Batch {
         &self.plan
     }
 
-    /// Does nothing. Its contract tells the limits of every batch, for proofs.
+    /// Does nothing: its contract states the limits of every batch, for proofs.
     #[inline(always)]
     pub fn limits(&self)
         ensures { IsBatch self.now }
@@ -249,7 +249,6 @@ impl Batch {
         Ok(out)
     }
 
-    // Appends the bytes of the batch.
     fn put(&self, out: &mut Vec<u8>) -> Result<(), AllocError>
         requires { out.old.items ≡ [] }
         ensures { OnOk result (out.new.items ≡ batch_bytes self.now) }

@@ -55,7 +55,6 @@ fn u16_at(bytes: &[u8], at: usize) -> u16
     u16::from_be_bytes([bytes[at], bytes[at + 1]])
 }
 
-/// The 32 bytes at place 14.
 fn job_at(bytes: &[u8]) -> [u8; 32]
     requires { 46 ≤ length bytes.now }
     ensures { result ≡ take 32 (drop 14 bytes.now) }
@@ -119,7 +118,6 @@ pub(crate) fn put_u32(out: &mut Vec<u8>, number: u32) -> Result<(), AllocError>
     out.extend_from_slice(&field)
 }
 
-// A field is put at its place, after what is before it.
 fn set_field(bytes: &mut [u8], at: usize, field: &[u8])
     requires { at + length field.now ≤ length bytes.old }
     ensures { take (at + length field.now) bytes.new ≡ take at bytes.old ++ field.now }

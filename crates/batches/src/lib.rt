@@ -1,6 +1,6 @@
-//! Batches: what a partition tells another of a superstep, and the one spelling of each as bytes.
+//! Batches: what a partition sends another for a superstep, and the one spelling of each as bytes.
 //!
-//! [`Batch::start`] and [`Batch::push`] build a batch row by row, the readers and [`Batch::find`] tell what it has,
+//! [`Batch::start`] and [`Batch::push`] build a batch row by row, the readers and [`Batch::find`] return what it has,
 //! and [`Batch::encode`] writes its bytes. [`Batch::decode`] reads them back: it answers the batch or, as a
 //! [`BatchError`], the first check that fails. Bytes that pass are the spelling of a batch within its limits, so a
 //! replica may rest on these limits whatever it is sent.

@@ -75,7 +75,7 @@ pub(crate) fn push_onto(
     }
 }
 
-/// Takes room for so many more registers at once, if they are the rows' own.
+/// Takes room for `more` registers at once, if the registers are the rows' own.
 pub(crate) fn reserve(registers: &mut Registers, more: usize) -> Result<(), AllocError>
     ensures same { (m : ℕ) → flat_of m registers.new ≡ flat_of m registers.old }
     ensures lie { (m : ℕ) → LieIn m registers.old → LieIn m registers.new }

@@ -27,7 +27,6 @@ fn greatest(registers: &[u8]) -> u8
         .fold(0, |most, register| most.max(*register))
 }
 
-/// Whether a register is above the greatest rank.
 fn has_above(registers: &[u8]) -> bool
     ensures { result ≡ list_any (nat_lt GREATEST_RANK) registers.now }
 {

@@ -38,7 +38,8 @@ pub record SplitsPlaces (places : List ℕ) (count j k : ℕ) : Type 0 where
   pub below : (i : ℕ) → i < j → get_or places i 0 < k
   pub above : (i : ℕ) → j ≤ i → i < count → k ≤ get_or places i 0
 
--- a weight that is moved by the pieces at the first j places: as far as any number of pieces that splits these from the others
+-- a weight that is moved by the pieces at the first j places: as far as any number of pieces that splits these from the
+-- others
 pub record IsMoved (weight moved : ℕ) (places : List ℕ) (count j : ℕ) (old new : List ℕ) : Type 0 where
   pub to : (k : ℕ) → k ≤ length old / 32 → SplitsPlaces places count j k → MovedTo weight moved k old new
 

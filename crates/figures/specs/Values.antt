@@ -30,7 +30,7 @@ pub record IsWeight (log2m weight : ℕ) : Type 0 where
   pub greatest : weight % EMPTY ≤ 2 ^ 43
   pub empty : weight / EMPTY ≤ 2 ^ log2m
 
--- of so many pieces of 32 registers of two counters, those at the first places, which rise, may differ, and no others
+-- of the pieces of 32 registers of two counters only those at the first `count` places, which ascend, may differ
 pub record PiecesDifferAt (places : List ℕ) (count pieces : ℕ) (old new : List ℕ) : Type 0 where
   pub few : count ≤ length places
   pub within : (j : ℕ) → j < count → slice_index places j < pieces

@@ -33,9 +33,10 @@ pub struct Figures {
 }
 
 /// The figures of all vertices, in order: of each row and the tally at its place, what [`estimate`], [`closeness`],
-/// [`lin`] and [`Rows::empty_count`] give. The estimate is the raw one of the row. The error is that memory was refused.
+/// [`lin`] and [`Rows::empty_count`] give. The estimate is the raw one of the row. The error is that memory was
+/// refused.
 ///
-/// The work is dealt out to as many threads as there are processors; what comes out is the same for every split.
+/// The work is dealt out to as many threads as there are processors; the figures are the same for every split.
 /// Fewer than 2,048 vertices are done in one thread. For a library's user: the program does not call it.
 pub fn final_figures(
     rt: &(impl Threads + Sync),
@@ -70,8 +71,8 @@ pub fn final_figures(
         .collect(rt, alloc)
 }
 
-// How many vertices a piece has at least, if so many are dealt out. Then there are no more pieces than threads; if 0
-// are asked for, each piece is worth a thread, and there may be as many as the processors take.
+// How many of `count` vertices a piece has at least. Then there are no more pieces than threads; if 0 threads are asked
+// for, each piece is worth one, and there may be as many as the processors take.
 fn least_piece(count: usize, threads: usize) -> usize
     ensures worth { LEAST_PIECE ≤ result }
     ensures few { 0 < threads → count ≤ threads * result }
@@ -82,10 +83,10 @@ fn least_piece(count: usize, threads: usize) -> usize
     count.div_ceil(threads).max(LEAST_PIECE)
 }
 
-/// Those of the vertices at some of the places, as far as there are such: for callers that have no room for all. Here the
-/// estimate is the tally's last one, raw or corrected, as it was stepped by.
+/// The figures of the vertices at these places, as far as there are such: for callers that have no room for all. Here
+/// the estimate is the tally's last one, raw or corrected as the tally was stepped.
 ///
-/// The work is dealt out to at most so many threads; if 0 are asked for, to as many as there are processors.
+/// The work is dealt out to at most `threads` threads; if that is 0, to as many as there are processors.
 pub fn figures_within(
     rt: &(impl AllocGlobal + Threads + Sync),
     rows: &Rows,
@@ -113,7 +114,7 @@ pub fn figures_within(
         .collect(rt, rt.alloc())
 }
 
-// The figures of the vertex at a place, whose ball is estimated at so many.
+// The figures of vertex `i`, with this estimate of its ball.
 fn figures_at(estimate: u64, rows: &Rows, tallies: &[Tally], i: usize) -> Figures
     requires tally { i < length tallies.now }
     requires row { i < length rows.now.rows }

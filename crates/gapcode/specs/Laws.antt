@@ -24,7 +24,7 @@ abbrev pub SpellingIsOne : Type 0
 SpellingIsOne = (xs ys : List ℕ) (lists : List (List ℕ)) → AllByRecursion (λ b. b < 256) xs →
     AllByRecursion (λ b. b < 256) ys → IsSpelling xs lists → IsSpelling ys lists → xs ≡ ys
 
--- no bytes spell so many lists in two ways
+-- no bytes spell the same number of lists in two ways
 abbrev pub MeaningIsOne : Type 0
 MeaningIsOne = (bound : ℕ) (bytes : List ℕ) (xss yss : List (List ℕ)) → bound ≤ 2 ^ 32 →
     length xss ≡ length yss → AreAscending bound xss → AreAscending bound yss →

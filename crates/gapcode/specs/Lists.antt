@@ -34,7 +34,7 @@ IsAscending bound least (x ∷ xs) = (least ≤ x) × (x < bound) × IsAscending
 abbrev pub AreAscending : ℕ → List (List ℕ) → Type 0
 AreAscending bound lists = AllByRecursion (IsAscending bound 0) lists
 
--- the bytes spell these lists, so many, each strictly ascending and below bound
+-- the bytes spell these lists: that many, each strictly ascending and below bound
 pub record AreSpelled (bound many : ℕ) (bytes : List ℕ) (lists : List (List ℕ)) : Type 0 where
   pub spelled : IsSpelling bytes lists
   pub count : length lists ≡ many
@@ -74,7 +74,7 @@ lists_at bound (suc n) bits = do
   others ← lists_at bound n first.1
   Ok (first.0 ∷ others.0, others.1)
 
--- so many bits as bring the rest to whole bytes
+-- the bits at the front after which whole bytes are left
 abbrev pub first_of_byte : ℕ → List Bool → List Bool
 first_of_byte left bits = take (left % 8) bits
 

@@ -60,7 +60,6 @@ fn degree(bytes: &[u8], position: u32) -> (u64, u32)
     }
 }
 
-// The bytes from the one on that has this bit.
 fn behind(bytes: &[u8], place: u32) -> &[u8]
     requires { place ≤ 8 * length bytes.now }
     ensures { result.now ≡ drop (place / 8) bytes.now }
@@ -70,7 +69,6 @@ fn behind(bytes: &[u8], place: u32) -> &[u8]
 }
 
 impl<'a> Elements<'a> {
-    // The list that begins at this bit.
     pub(crate) fn at(bytes: &'a [u8], place: u128) -> Elements<'a>
         requires { IsPlaced bytes.now place }
         ensures { result ≡ read_list (bits_from bytes.now place) }

@@ -23,7 +23,7 @@ pub fn spelling_is_one()
     ensures { SpellingIsOne }
 {}
 
-/// No bytes spell so many lists in two ways.
+/// No bytes spell the same number of lists in two ways.
 pub fn meaning_is_one()
     ensures { MeaningIsOne }
 {}

@@ -72,8 +72,8 @@ impl Lists {
         Elements::at(&self.bytes, self.places.at(i))
     }
 
-    /// A list between these two; about half of the bits of those between come before it: there work on them is cut in
-    /// two. It looks at as many places as the number of lists between has binary digits.
+    /// Where work on lists `from` to `to - 1` is cut in two: about half of their bits come before this list. It looks
+    /// at as many places as the number of these lists has binary digits.
     pub fn middle(&self, from: usize, to: usize) -> usize
         requires order { from ≤ to }
         requires inside { to ≤ length self.now }
@@ -91,12 +91,12 @@ impl Lists {
         &self.bytes
     }
 
-    /// The lists that these bytes spell: so many of them, of numbers below the bound.
+    /// The `count` lists that these bytes spell, of numbers below the bound.
     ///
     /// The first fault from the left is answered: `Ended`, `TooLong` and `Range` by the place of reading, then
     /// `Padding`, `Trailing` and, if all checks passed, `Memory`. For a library's user: the program does not call it.
     pub fn read(alloc: Global, bytes: &[u8], count: usize, bound: u32) -> Result<Lists, CodeError>
-        // What is found is spelled by the bytes, and so many lists of numbers below the bound.
+        // What is found is `count` lists of numbers below the bound, and the bytes spell them.
         ensures found { IfOk result (λ lists. AreSpelled bound count bytes.now lists) }
         // If the bytes spell such lists, those are found, or memory was refused.
         ensures only { (lists : List (List ℕ)) → AreSpelled bound count bytes.now lists
@@ -132,7 +132,6 @@ fn middle_of(places: &Places, from: usize, to: usize) -> usize
     low
 }
 
-// The lists that the bytes spell, or the first fault.
 fn checked(alloc: Global, bytes: &[u8], count: usize, bound: u32) -> Result<Lists, CodeError>
     ensures { GivesOrMemory result (all_of bound count bytes.now) }
 {
@@ -155,7 +154,6 @@ fn list_end(bytes: &[u8], place: u128) -> u128
     }
 }
 
-// How many bits the lists take.
 fn bits_in(lists: &Lists) -> u128
     ensures { result ≡ length (flat_map list_bits lists.now) }
 {
@@ -181,7 +179,6 @@ fn places(alloc: Global, bytes: &[u8], count: usize) -> Result<Places, AllocErro
     Ok(places)
 }
 
-// The lists that the bytes spell.
 fn indexed(alloc: Global, bytes: &[u8], count: usize) -> Result<Lists, AllocError>
     requires { (lists : List (List ℕ)) × AreSpelled beyond count bytes.now lists }
     ensures { (lists : List (List ℕ)) → AreSpelled beyond count bytes.now lists
@@ -212,7 +209,6 @@ impl Model for ListsBuilder {
     ghost invariant = { λ builder. IsIndex builder.writer [] builder.places };
 }
 
-// Appends the codes of a list.
 fn put_list(writer: &mut BitWriter, list: &[u32]) -> Result<(), AllocError>
     requires { AscendsFrom 0 list.now }
     ensures { OnOk result (writer.new ≡ writer.old ++ list_bits list.now) }
@@ -228,7 +224,7 @@ fn put_list(writer: &mut BitWriter, list: &[u32]) -> Result<(), AllocError>
 }
 
 impl ListsBuilder {
-    /// No lists, with room for the places of so many.
+    /// No lists, with room for the places of `count`.
     pub fn with_room(alloc: Global, count: usize) -> Result<ListsBuilder, AllocError>
         ensures { IfOk result (λ builder. builder ≡ []) }
     {

@@ -10,8 +10,7 @@ use std::marker::Model;
 
 /// Ascending places below 2^96: the bits or bytes at which pieces begin that lie one after another.
 ///
-/// A place takes 4 bytes, for its lowest 32 bits. Beside them is a mark of 8 bytes for each 2^32 that the last place has
-/// passed.
+/// A place takes 4 bytes, for its lowest 32 bits. Beside them is a mark of 8 bytes for each 2^32 up to the last place.
 #[derive(Drop)]
 pub struct Places {
     lows: Vec<u32>,
@@ -29,14 +28,12 @@ impl Model for Places {
     ghost invariant = { λ p. AreMarks p.lows.items p.marks.items };
 }
 
-// How many marks are at entry i or before.
 fn passed_by(marks: &[usize], i: usize) -> usize
     ensures { result ≡ marks_up_to i marks.now }
 {
     marks.iter().filter(|mark| **mark <= i).count()
 }
 
-// Marks the entry until there are that many marks.
 fn put_marks(marks: &mut Vec<usize>, entry: usize, count: u64) -> Result<(), AllocError>
     requires { length marks.old.items ≤ count }
     ensures { OnOk result (marks.new.items
@@ -48,7 +45,7 @@ fn put_marks(marks: &mut Vec<usize>, entry: usize, count: u64) -> Result<(), All
     Ok(())
 }
 
-// The places, with room for so many more.
+// The places, with room for `count` more.
 fn with_more_room(places: Places, count: usize) -> Result<Places, AllocError>
     ensures { IfOk result (λ p. p ≡ places) }
 {
@@ -58,7 +55,7 @@ fn with_more_room(places: Places, count: usize) -> Result<Places, AllocError>
 }
 
 impl Places {
-    /// No places, with room for so many.
+    /// No places, with room for `count`.
     pub fn with_room(alloc: Global, count: usize) -> Result<Places, AllocError>
         ensures { IfOk result (λ p. p ≡ []) }
     {
@@ -99,7 +96,7 @@ impl Places {
     }
 }
 
-/// The places, and after them others, each of these so much further on. The error is that memory was refused.
+/// The places, and after them the others, each `by` further on. The error is that memory was refused.
 pub(crate) fn moved_behind(places: Places, others: &Places, by: u128) -> Result<Places, AllocError>
     requires last { slice_index places (length places - 1) ≤ by }
     requires others { IsAscending (2 ^ 95) 0 others.now }

@@ -50,7 +50,6 @@ fn put_digits(full: &mut Vec<u8>, last: u8, used: u32, value: u64, n: u32) -> (u
     (left, total % 8)
 }
 
-// Appends a gamma code.
 fn put_code(full: &mut Vec<u8>, last: u8, used: u32, x: u64) -> (u8, u32)
     requires used { used < 8 }
     requires last { last < 2 ^ used }
@@ -83,7 +82,7 @@ fn put_word(full: &mut Vec<u8>, last: u8, used: u32, word: u64) -> u8
     left
 }
 
-// Appends the first bits of bytes, 64 at a time and so many times. As many bits as before are left over.
+// Appends the first 64 * `count` bits of bytes, 64 at a time. As many bits as before are left over.
 fn put_words(full: &mut Vec<u8>, last: u8, used: u32, bytes: &[u8], count: usize) -> u8
     requires used { used < 8 }
     requires last { last < 2 ^ used }
@@ -102,7 +101,6 @@ fn put_words(full: &mut Vec<u8>, last: u8, used: u32, bytes: &[u8], count: usize
     left
 }
 
-// The first n bits of bytes as one number.
 fn first_bits(bytes: &[u8], n: u32) -> u64
     requires n { n < most_digits }
     requires inside { n ≤ 8 * length bytes.now }
@@ -187,7 +185,7 @@ pub fn put_gamma(writer: &mut BitWriter, x: u64) -> Result<(), AllocError>
     Ok(())
 }
 
-/// Appends the first bits of bytes, so many.
+/// Appends the first `count` bits of bytes.
 ///
 /// The error is that memory was refused.
 pub(crate) fn put_bits(writer: &mut BitWriter, bytes: &[u8], count: u128) -> Result<(), AllocError>

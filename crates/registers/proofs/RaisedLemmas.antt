@@ -108,7 +108,7 @@ all_raised i first row others long end raised =
     ∙ raised-above first first others (max_each-repeats first)
 
 -- ---- a piece, other by other
--- all of so many others
+-- the first k of the others are all of them, if there are at most k
 pub raised_by_all : {X : Type 0} (view : X → List ℕ) (i n : ℕ) (row : List ℕ) (xs : List X) (k : ℕ) → length xs ≤ k →
     raised_over row (map (λ x. chunk i n (view x)) (take k xs)) ≡ raised_over row (map (chunk i n) (map view xs))
 raised_by_all view i n row xs k all =

@@ -1,10 +1,10 @@
 //! Registers of HyperLogLog counters.
 //!
 //! A counter of 2^log2m registers is a slice of as many bytes. The counter of a union of sets is the maximum of
-//! their counters, register by register (HyperLogLog 2007): [`max_into`] takes that maximum and tells whether it
-//! changed anything, which is how a superstep knows what to send (HyperBall 2013). [`Rows`] has one counter for
-//! each vertex, side by side in one buffer that is taken once. [`raise_by_eight`] takes the maximum with eight of them in
-//! one pass.
+//! their counters, register by register (HyperLogLog 2007): [`max_into`] takes that maximum and returns whether it
+//! changed anything, so that a superstep knows what to send (HyperBall 2013). [`Rows`] has one counter for
+//! each vertex, side by side in one buffer that is taken once. [`raise_by_eight`] takes the maximum with eight of them
+//! in one pass.
 //!
 //! [`Join`] is what can be joined in any order and any number of times with the same outcome, as [`Rows`] by their
 //! maximum and a [`SourceMask`] by the sources of both; [`reconcile`] makes two such values equal.

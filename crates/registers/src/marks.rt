@@ -24,7 +24,7 @@ pub fn next_marked(marks: &[bool], from: usize) -> usize
     }
 }
 
-// The next marked vertex from `from` on, found block by block.
+// The next marked place from `from` on, found block by block.
 #[inline(never)]
 fn next_by_blocks(marks: &[bool], from: usize) -> usize
     requires { from ≤ length marks.now }
@@ -38,7 +38,7 @@ fn next_by_blocks(marks: &[bool], from: usize) -> usize
     i
 }
 
-// Passes over blocks of so many marks of which none is set.
+// Passes over blocks of `size` marks of which none is set.
 #[inline(always)]
 fn pass_blank(marks: &[bool], from: usize, size: usize) -> usize
     requires from { from ≤ length marks.now }
@@ -54,7 +54,7 @@ fn pass_blank(marks: &[bool], from: usize, size: usize) -> usize
     i
 }
 
-// Whether none of so many marks is set. It stops at none of them, so that many are looked at side by side.
+// Whether none of `size` marks is set. It always looks at all of them, so that many are looked at side by side.
 #[inline(always)]
 fn is_blank(marks: &[bool], from: usize, size: usize) -> bool
     requires { from + size ≤ length marks.now }

@@ -18,7 +18,7 @@ pub trait CountedRead: Read {
     fn failures(&self) -> u64
         ensures { result ≡ min (failed_calls self.now) (2 ^ 64 - 1) };
 
-    /// Reads some bytes into the front of `buf`, and tells their number; None if the call failed.
+    /// Reads some bytes into the front of `buf`, and returns their number; None if the call failed.
     ///
     /// The number is 0 only at the end of the input, or if `buf` is empty.
     fn get(&mut self, buf: &mut [u8]) -> Option<usize>
@@ -46,7 +46,7 @@ pub trait CountedWrite: Write {
     fn failures(&self) -> u64
         ensures { result ≡ min (failed_calls self.now) (2 ^ 64 - 1) };
 
-    /// Writes a first piece of `bytes`, and tells its length, which is not 0; None if the call failed.
+    /// Writes a first piece of `bytes`, and returns its length, which is not 0; None if the call failed.
     fn put(&mut self, bytes: &[u8]) -> Option<usize>
         requires { 0 < length bytes.now }
         ensures some { IfSome result (λ n. 0 < n) }
@@ -59,7 +59,7 @@ pub trait CountedWrite: Write {
         ensures taken { IfSome result (λ n. room self.new ≡ room self.old - n) }
         ensures kept { IfNone result (room self.new ≡ room self.old) };
 
-    /// Passes on what is held back, and tells whether the call went well.
+    /// Passes on what is held back, and returns whether the call went well.
     fn try_flush(&mut self) -> bool
         ensures bytes { Keeps (Self.contents self.old) (Self.contents self.new) }
         ensures counted { result ≡ true → failed_calls self.new ≡ failed_calls self.old }

@@ -50,7 +50,6 @@ impl Model for FailedCalls {
 }
 
 impl FailedCalls {
-    // No failed call yet.
     pub(crate) fn none() -> FailedCalls
         ensures { result ≡ 0 }
     {
@@ -60,7 +59,6 @@ impl FailedCalls {
         }
     }
 
-    // Counts one more.
     pub(crate) fn add_one(&mut self)
         ensures { self.new ≡ self.old + 1 }
     {
@@ -68,7 +66,6 @@ impl FailedCalls {
         self.exact = Number::after(&self.exact);
     }
 
-    // The number, or `u64::MAX` if it is greater.
     pub(crate) fn count(&self) -> u64
         ensures { result ≡ min self.now (2 ^ 64 - 1) }
     {

@@ -1,4 +1,4 @@
-//! Streams over memory, which tell their bytes and fail at a call that is chosen.
+//! Streams over memory, whose bytes a contract sees, and which fail from a chosen call on.
 
 ghost use Rattle.std.specs.Prelude.{◌≡◌, ◌+◌, ◌-◌, ◌<◌, ◌≤◌, ◌⊎◌, min, None, Some, OnOk, OnErr};
 ghost use Rattle.std.specs.Prelude.{IfOk, IfSome, IfNone, IsOk, IsErr, length, [], true};
@@ -85,8 +85,8 @@ impl<'a> CountedRead for MemReader<'a> {
     }
 }
 
-/// A writer into memory with room for some bytes, which is all taken when it is made. It fails if it is full, and a
-/// call chosen in advance and all later ones fail. A flush is no call and never fails.
+/// A writer into memory with room for some bytes, whose memory is all taken when it is made. It fails if it is full,
+/// and a call chosen in advance and all later ones fail. A flush is no call and never fails.
 #[derive(Drop)]
 pub struct MemWriter {
     bytes: Vec<u8>,

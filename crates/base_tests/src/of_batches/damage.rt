@@ -4,8 +4,8 @@ ghost use Rattle.std.specs.Prelude.{◌<◌};
 
 use super::*;
 
-// Reads bytes, writes what was read, and tells how often they were read as a batch: once, or not at all. A refusal for
-// anything but memory is no fault; for memory, or if the batch has other bytes, there is no answer.
+// Reads bytes, writes what was read, and returns how often they were read as a batch: once, or not at all. There is no
+// answer if memory was refused, or if the batch has other bytes; another refusal is no fault.
 fn see(alloc: Global, plan: &Plan, bytes: &[u8]) -> Option<u32> {
     match is_kept(alloc, plan, bytes) {
         Ok(true) => Some(1),
@@ -44,8 +44,9 @@ fn see_all_turned(alloc: Global, plan: &Plan) -> Option<u32> {
     Some(read)
 }
 
-/// By hand, of the batch's 592 bits: 13 of the superstep, up to 4096; one of the target; 256 of the digest, another job's;
-/// one of the vertex, 2; and of the registers six of each that is 0, up to 32, and five of that which is 3.
+/// By hand, of the batch's 592 bits: 13 of the superstep, up to 4096; one of the target; 256 of the digest, which is
+/// then another job's; one of the vertex, 2; and of the registers six of each that is 0, up to 32, and five of the one
+/// that is 3.
 const READ_TURNED: u32 = 13 + 1 + 256 + 1 + 15 * 6 + 5;
 
 // The next of a row of numbers: x becomes 6364136223846793005 x + 1442695040888963407 below 2^64 (Knuth).
@@ -76,7 +77,7 @@ fn random(state: &mut u64) -> [u8; 74] {
     bytes
 }
 
-// Reads so many batches with bits turned, and as many random ones, each cut somewhere or whole.
+// Reads a thousand batches with bits turned, and as many random ones, each cut somewhere or whole.
 fn see_random(alloc: Global, plan: &Plan) -> Option<u32> {
     let mut state = 28;
     let mut read = 0u32;

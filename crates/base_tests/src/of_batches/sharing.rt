@@ -123,7 +123,7 @@ fn pair(alloc: Global, like: &Batch) -> Result<(Batch, Batch), AllocError>
     Ok((one, other))
 }
 
-/// Whether there are so many rows, and vertices 0 and 2 have these.
+/// Whether there are `count` rows, and vertices 0 and 2 have these.
 fn has_rows(batch: &Batch, count: u32, first: &[u8], second: &[u8]) -> bool
     requires { 2 ≤ length batch.now.rows }
 {
@@ -167,7 +167,7 @@ fn are_pushed(one: &mut Batch, other: &Batch) -> Result<bool, AllocError>
     )
 }
 
-/// Whether the first batch has its rows and is written as these are, and both have theirs once the first has a row more.
+/// Whether the first batch has its rows and is written as these are, and both have theirs once the first has one more.
 fn have_rows(alloc: Global, like: &mut Batch, both: &mut (Batch, Batch)) -> Result<bool, AllocError>
     requires plan { (like.old.plan.log2m ≡ 4) × (like.old.plan.parts ≡ 2) × (like.old.plan.vertices ≡ 5) }
     requires name { (like.old.name.source ≡ 0) × (like.old.changed ≡ 3) }

@@ -37,8 +37,8 @@ fn cut_lists_have_ended(rt: HostRuntime) {
     assert_eq!(rt; first_cut_not_ended(rt.alloc()), None);
 }
 
-// Reads bytes, and tells how often they were read as lists: once, or not at all. A refusal for anything but memory is
-// no fault; for memory, or if the lists are not just these bytes, there is no answer.
+// Reads bytes, and returns how often they were read as lists: once, or not at all. There is no answer if memory was
+// refused, or if the lists have other bytes; another refusal is no fault.
 fn see(alloc: Global, bytes: &[u8], count: usize, bound: u32) -> Option<u32> {
     match Lists::read(alloc, bytes, count, bound) {
         Ok(lists) => are_these(&lists, bytes, count).then_some(1),
@@ -46,7 +46,7 @@ fn see(alloc: Global, bytes: &[u8], count: usize, bound: u32) -> Option<u32> {
     }
 }
 
-// Whether so many lists have just these bytes.
+// Whether there are `count` lists, and these are just their bytes.
 fn are_these(lists: &Lists, bytes: &[u8], count: usize) -> bool {
     lists.len() == count && lists.bytes() == bytes
 }

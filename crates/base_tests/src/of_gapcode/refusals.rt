@@ -1,5 +1,5 @@
-//! Refused memory. A run of this test can refuse any one growth: then one of two calls is refused and the other answered,
-//! and with none refused both are answered.
+//! Refused memory. A run of this test can refuse any one growth: then one of two calls is refused and the other is
+//! answered. If none is refused both are.
 
 ghost use Rattle.gapcode.specs.Lists.{AscendsFrom};
 

@@ -3,7 +3,7 @@ use Rattle.std.proofs.Math.Nat.{mul-le-mul_left}
 use Rattle.std.proofs.lemmas.Grind.{div_ceil_times}
 use Rattle.figures.proofs.ends.least_piece.Goals as goal
 
--- so many pieces have all items
+-- that many pieces have all items
 pub returns-clause-few : goal.returns-clause-few
 returns-clause-few c = λ some.
     let count : ℕ = c.args.count in

@@ -18,7 +18,7 @@ take_part a k n xs ys within fits =
     let part : take n (drop a all) ≡ take n ys = ap (take n) (drop_at (take a xs) (ys ++ post_of a k xs) a (length-take-le a xs within)) ∙ take-append-le n ys (post_of a k xs) fits in
     take-add a n all ∙ ap (λ l. l ++ take n (drop a all)) front ∙ ap (λ l. take a xs ++ l) part
 
--- the input ended where so many bytes were read
+-- the input ended once that many bytes were read
 ends_after : (at n k : ℕ) (buf part : List ℕ) (a b : Option (List ℕ)) → at ≡ n → at < length (put_mid at k buf part) → at ≤ length buf → Consumes a b (take at buf) → IsAtEnd b → EndsAfter n a b (put_mid at k buf part)
 ends_after at n k buf part a b same fewer within read last = record {
   fewer = subst (λ (m : ℕ). m < length (put_mid at k buf part)) same fewer;
