@@ -14,15 +14,15 @@ import tempfile
 import time
 
 TOP = os.path.join(os.path.dirname(os.path.abspath(__file__)), "..")
-# Crate, file, test, inputs in a round, and what else is changed: counts that hold for a thousand rounds alone. (ROUNDS
-# stands for how many there are.)
+# Crate, file, test, inputs in a round, and what else is changed: counts that
+# hold for a thousand rounds alone. (ROUNDS stands for how many there are.)
 LOOPS = {
     "decode": ("base_tests", "of_batches/damage", "batches_with_bits_turned_and_random_ones", 2,
                [("assert_eq!(rt; seen(rt.alloc()), Some((READ_TURNED, 354)))", "assert!(rt; matches!(seen(rt.alloc()), Some((READ_TURNED, _))))")]),
     "lists": ("base_tests", "of_gapcode/damage", "random_lists", 1,
               [("assert_eq!(rt; see_random(rt.alloc()), Some(28))", "assert!(rt; see_random(rt.alloc()).is_some())")]),
     "lists-changed": ("base_tests", "of_gapcode/damage", "lists_with_some_bits_turned", 1, []),
-    "checkpoints": ("checkpoint", "tests/damage", "random_checkpoints", 2, []),
+    "checkpoints": ("state_tests", "of_checkpoint/damage", "random_checkpoints", 2, []),
     "scripts": ("world", "tests/random", "random_scripts", 2,
                 [("seen.answered > 1000 && seen.refused > 100", "seen.answered >= ROUNDS && seen.refused > 0")]),
     "scripts-any": ("world", "tests/random", "scripts_of_random_bytes", 1, [("seen.refused > 800", "seen.refused > 0")]),

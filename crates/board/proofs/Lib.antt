@@ -6,4 +6,3 @@ pub mod SeatLemmas
 pub mod CallLemmas
 pub mod GivenLemmas
 pub mod Crossing
-pub mod TestLemmas

@@ -49,6 +49,3 @@ pub use board::{Board, LEAST_ENTRIES, MOST_ENTRIES};
 pub use book::Book;
 pub use error::BoardError;
 pub use seat::Seat;
-
-#[cfg(test)]
-mod tests;

@@ -29,6 +29,3 @@ pub use error::KeepError;
 pub use length::checkpoint_length;
 pub use read::{check_front, read_checkpoint};
 pub use write::write_checkpoint;
-
-#[cfg(test)]
-mod tests;

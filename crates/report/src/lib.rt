@@ -25,6 +25,3 @@ pub use own::{figures_text, totals_text};
 pub use pages::Pages;
 pub use ready::report_ready;
 pub use write::{ReportError, write_report, write_report_by};
-
-#[cfg(test)]
-mod tests;
