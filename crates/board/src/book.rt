@@ -36,7 +36,7 @@ use std::sync::Arc;
 /// answers an error the book is as it was. What a call displaces it gives back, so that who calls may drop it when
 /// nobody waits.
 #[derive(Drop)]
-pub struct Book {
+pub(crate) struct Book {
     graph: Seen<Graph>,
     plan: Seen<Plan>,
     calls: Calls,
@@ -59,7 +59,7 @@ impl Model for Book {
 
 impl Book {
     /// The book of a history that has the opening alone.
-    pub fn open(alloc: Global, graph: &Graph, plan: &Plan) -> Result<Book, AllocError>
+    pub(crate) fn open(alloc: Global, graph: &Graph, plan: &Plan) -> Result<Book, AllocError>
         ensures { IfOk result (λ b. b ≡ start_history (job_of graph.now.graph plan.now)) }
     {
         Ok(Book {
@@ -73,7 +73,7 @@ impl Book {
     }
 
     /// The number of entries. The history is legal.
-    pub fn entries(&self) -> u32
+    pub(crate) fn entries(&self) -> u32
         ensures entries { result ≡ entries_of self.now }
         ensures legal { IsLegal self.now }
     {
@@ -84,7 +84,7 @@ impl Book {
     ///
     /// [`BookFull`](BoardError::BookFull) if the name is there and there are `limit` entries, then
     /// [`Memory`](BoardError::Memory) (also if the batch is shared 2^63 times).
-    pub fn fetch(
+    pub(crate) fn fetch(
         &mut self,
         by: u64,
         name: BatchName,
@@ -112,7 +112,12 @@ impl Book {
     ///
     /// [`BookFull`](BoardError::BookFull) if there are `limit` entries, then [`Memory`](BoardError::Memory) (also if
     /// the batch is shared 2^63 times).
-    pub fn post(&mut self, by: u64, batch: &Arc<Batch>, limit: u32) -> Result<Posted, BoardError>
+    pub(crate) fn post(
+        &mut self,
+        by: u64,
+        batch: &Arc<Batch>,
+        limit: u32,
+    ) -> Result<Posted, BoardError>
         requires { IsTrueBatch self.old.job (arc_value batch.now) }
         ensures ok { IfOk result
             (λ r. IsNoted limit by (Post (arc_value batch.now).name r) self.old self.new) }
@@ -133,7 +138,7 @@ impl Book {
     ///
     /// [`BookFull`](BoardError::BookFull) if there are `limit` entries, then [`Memory`](BoardError::Memory) (also if
     /// the snapshot is shared 2^63 times).
-    pub fn keep(
+    pub(crate) fn keep(
         &mut self,
         by: u64,
         snapshot: &Arc<Snapshot>,
@@ -161,7 +166,7 @@ impl Book {
     ///
     /// [`BookFull`](BoardError::BookFull) if there is one and there are `limit` entries, then
     /// [`Memory`](BoardError::Memory) (also if it is shared 2^63 times).
-    pub fn recall(
+    pub(crate) fn recall(
         &mut self,
         by: u64,
         part: u16,
@@ -191,7 +196,7 @@ impl Book {
     /// the board.
     ///
     /// [`BookFull`](BoardError::BookFull) if there are `limit` entries, then [`Memory`](BoardError::Memory).
-    pub fn drop_below(
+    pub(crate) fn drop_below(
         &mut self,
         by: u64,
         superstep: u32,

@@ -17,9 +17,9 @@ const SHEET: usize = 1024;
 
 /// The calls of a history.
 #[derive(Drop)]
-pub struct Calls {
+pub(crate) struct Calls {
     /// Where its sheets come from.
-    pub alloc: Global,
+    pub(crate) alloc: Global,
     // how many entries the history has, the opening among them
     entries: u32,
     // full sheets, and the sheet that is written on
@@ -29,7 +29,7 @@ pub struct Calls {
 
 impl Calls {
     /// None yet.
-    pub fn new(alloc: Global) -> Calls
+    pub(crate) fn new(alloc: Global) -> Calls
         ensures entries { result.entries ≡ 1 }
         ensures calls { calls_in result ≡ [] }
     {
@@ -42,14 +42,14 @@ impl Calls {
     }
 
     /// How many entries the history has, the opening among them.
-    pub fn entries(&self) -> u32
+    pub(crate) fn entries(&self) -> u32
         ensures { result ≡ self.now.entries }
     {
         self.entries
     }
 
     /// Makes room for one more.
-    pub fn make_room(&mut self, limit: u32) -> Result<(), BoardError>
+    pub(crate) fn make_room(&mut self, limit: u32) -> Result<(), BoardError>
         ensures entries { self.new.entries ≡ self.old.entries }
         ensures calls { calls_in self.new ≡ calls_in self.old }
         ensures ok { OnOk result ((self.old.entries < limit) × HasPlace self.new) }
@@ -69,7 +69,7 @@ impl Calls {
     }
 
     /// Makes room for one more, and shares what it tells of.
-    pub fn share<T>(&mut self, value: &Arc<T>, limit: u32) -> Result<Arc<T>, BoardError>
+    pub(crate) fn share<T>(&mut self, value: &Arc<T>, limit: u32) -> Result<Arc<T>, BoardError>
         ensures entries { self.new.entries ≡ self.old.entries }
         ensures calls { calls_in self.new ≡ calls_in self.old }
         ensures ok { IfOk result (λ a. (arc_value a ≡ arc_value value.now)
@@ -83,7 +83,7 @@ impl Calls {
     }
 
     /// Notes a call, for which room was made.
-    pub fn note(&mut self, by: u64, event: HistoryEvent)
+    pub(crate) fn note(&mut self, by: u64, event: HistoryEvent)
         requires { HasPlace self.old }
         ensures entries { self.new.entries ≡ self.old.entries + 1 }
         ensures calls { calls_in self.new ≡ calls_in self.old ++ entry by (event_of event) ∷ [] }

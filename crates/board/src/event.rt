@@ -6,7 +6,7 @@ use std::snapshot::Snapshot as Seen;
 
 /// A call that changed or found something, with its reply. What is named by a snapshot takes no bytes here.
 #[derive(Drop)]
-pub enum HistoryEvent {
+pub(crate) enum HistoryEvent {
     /// A batch of this name was posted.
     Post(BatchName, Posted),
     /// The batch of this name was found.
@@ -21,9 +21,9 @@ pub enum HistoryEvent {
 
 /// An event, and the number of its caller.
 #[derive(Drop)]
-pub struct Entry {
+pub(crate) struct Entry {
     /// The number of the caller's seat.
-    pub by: u64,
+    pub(crate) by: u64,
     /// What it did.
-    pub event: HistoryEvent,
+    pub(crate) event: HistoryEvent,
 }

@@ -31,8 +31,6 @@
 //! until it is woken. So the queue is short, and of many threads that call few have to be given a processor between two
 //! calls of one.
 //!
-//! A [`Book`] by itself is a board of one caller: the same calls with the same answers, and no table.
-//!
 //! An entry takes about 24 bytes. [`Board::length`] and [`Board::join`] take no turn and no memory.
 #![tactic(auto)]
 
@@ -46,6 +44,5 @@ mod seat;
 mod turn;
 
 pub use board::{Board, LEAST_ENTRIES, MOST_ENTRIES};
-pub use book::Book;
 pub use error::BoardError;
 pub use seat::Seat;

@@ -8,16 +8,16 @@ use std::marker::Model;
 use std::snapshot::Snapshot as Seen;
 
 /// The word that is the length of the history.
-pub const LENGTH: usize = 0;
+pub(crate) const LENGTH: usize = 0;
 
 /// The word that is the next ticket.
-pub const TICKETS: usize = 1;
+pub(crate) const TICKETS: usize = 1;
 
 /// The word that is the ticket that is served.
-pub const SERVING: usize = 2;
+pub(crate) const SERVING: usize = 2;
 
 /// What a seat knows, as clauses see it. No value of it is made.
-pub struct Knowledge {}
+pub(crate) struct Knowledge {}
 
 impl Model for Knowledge {
     ghost use Rattle.board.specs.View.{View, spent_view};
@@ -28,7 +28,7 @@ impl Model for Knowledge {
 }
 
 /// There is one legal history, and what each seat knows fits it.
-pub struct Lock;
+pub(crate) struct Lock;
 
 impl TableRule<Option<Book>, Knowledge, (Seen<Book>, u32)> for Lock {
     ghost use Rattle.board.specs.Rule.{IsLocked, first_view};
@@ -39,7 +39,7 @@ impl TableRule<Option<Book>, Knowledge, (Seen<Book>, u32)> for Lock {
 }
 
 /// A ticket is drawn.
-pub struct DrawsTicket;
+pub(crate) struct DrawsTicket;
 
 impl Play<Option<Book>, Knowledge> for DrawsTicket {
     ghost use Rattle.board.specs.Rule.{DrewTicket};
@@ -48,7 +48,7 @@ impl Play<Option<Book>, Knowledge> for DrawsTicket {
 }
 
 /// The ticket that is served is looked at.
-pub struct LooksAtServing;
+pub(crate) struct LooksAtServing;
 
 impl Play<Option<Book>, Knowledge> for LooksAtServing {
     ghost use Rattle.board.specs.Rule.{LookedAtServing};
@@ -57,7 +57,7 @@ impl Play<Option<Book>, Knowledge> for LooksAtServing {
 }
 
 /// The length is written.
-pub struct WritesLength;
+pub(crate) struct WritesLength;
 
 impl Play<Option<Book>, Knowledge> for WritesLength {
     ghost use Rattle.board.specs.Rule.{WroteLength};
@@ -66,7 +66,7 @@ impl Play<Option<Book>, Knowledge> for WritesLength {
 }
 
 /// The next ticket is served.
-pub struct RaisesServing;
+pub(crate) struct RaisesServing;
 
 impl Play<Option<Book>, Knowledge> for RaisesServing {
     ghost use Rattle.board.specs.Rule.{RaisedServing};
@@ -75,7 +75,7 @@ impl Play<Option<Book>, Knowledge> for RaisesServing {
 }
 
 /// The length is looked at.
-pub struct LooksAtLength;
+pub(crate) struct LooksAtLength;
 
 impl Play<Option<Book>, Knowledge> for LooksAtLength {
     ghost use Rattle.board.specs.Rule.{LookedAtLength};
@@ -84,7 +84,7 @@ impl Play<Option<Book>, Knowledge> for LooksAtLength {
 }
 
 /// A seat gives some of its numbers to a new one.
-pub struct GivesNumbers;
+pub(crate) struct GivesNumbers;
 
 impl Split<Knowledge> for GivesNumbers {
     ghost use Rattle.board.specs.Rule.{keeper, newcomer};
@@ -95,7 +95,7 @@ impl Split<Knowledge> for GivesNumbers {
 }
 
 /// A seat gets to know what another has seen, which ends.
-pub struct TellsOfEnded;
+pub(crate) struct TellsOfEnded;
 
 impl Join<Knowledge> for TellsOfEnded {
     ghost use Rattle.board.specs.Rule.{with_news};
@@ -106,6 +106,6 @@ impl Join<Knowledge> for TellsOfEnded {
     ghost spent = { spent_view };
 }
 
-pub type BoardTable = Table<Option<Book>, Knowledge, (Seen<Book>, u32), Lock, Global>;
+pub(crate) type BoardTable = Table<Option<Book>, Knowledge, (Seen<Book>, u32), Lock, Global>;
 
-pub type Pass = Seat<Option<Book>, Knowledge>;
+pub(crate) type Pass = Seat<Option<Book>, Knowledge>;

@@ -15,10 +15,10 @@ const SHARE: u64 = 1024;
 
 /// What a seat was granted: a pass to the table, and numbers, the first of which is its own.
 #[derive(Drop)]
-pub struct Grant {
-    pub pass: Pass,
-    pub number: u64,
-    pub room: u64,
+pub(crate) struct Grant {
+    pub(crate) pass: Pass,
+    pub(crate) number: u64,
+    pub(crate) room: u64,
 }
 
 /// The right to use a board, for one thread at a time.

@@ -35,7 +35,7 @@ const SHORTEST: u64 = 50;
 const DOUBLINGS: u32 = 4;
 
 /// Looks at the length.
-pub fn look_at_length(table: &BoardTable, pass: &mut Pass) -> u64
+pub(crate) fn look_at_length(table: &BoardTable, pass: &mut Pass) -> u64
     requires table { IsAtTable pass.old.table_id table.now.shared.table_id }
     requires idle { IsIdle pass.old.me }
     ensures same { (pass.new.table_id ≡ pass.old.table_id) × (pass.new.id ≡ pass.old.id) }
@@ -179,15 +179,15 @@ fn wake_next(table: &BoardTable, served: u64)
 
 /// A call's turn: what was granted to the seat, the book as it was found, and the book.
 #[derive(Drop)]
-pub struct Turn {
+pub(crate) struct Turn {
     was: Seen<Grant>,
     found: Seen<Book>,
-    pub book: Book,
+    pub(crate) book: Book,
 }
 
 impl Turn {
     /// Takes the book, once it is the seat's turn.
-    pub fn take<R: Wait>(rt: &R, table: &BoardTable, grant: &mut Grant) -> Turn
+    pub(crate) fn take<R: Wait>(rt: &R, table: &BoardTable, grant: &mut Grant) -> Turn
         requires table { IsAtTable grant.old.pass.table_id table.now.shared.table_id }
         requires fits { GrantFits grant.old }
         ensures turn { IsTurn grant.old grant.new result.found.value }
@@ -201,7 +201,7 @@ impl Turn {
     }
 
     /// Gives the book back, and lets the next caller in: the seat has made the calls that were noted.
-    pub fn give(self, table: &BoardTable, grant: &mut Grant)
+    pub(crate) fn give(self, table: &BoardTable, grant: &mut Grant)
         requires table { IsAtTable grant.old.pass.table_id table.now.shared.table_id }
         requires turn { IsTurn self.was.value grant.old self.found.value }
         requires next { IsNext self.was.value.pass.me.0.limit self.was.value.number

@@ -15,25 +15,25 @@ pub(crate) const MAGIC: u32 = 0x4842_434b;
 
 /// The fixed fields as the bytes have them, not checked yet.
 #[derive(Clone, Copy)]
-pub struct CheckpointHeader {
+pub(crate) struct CheckpointHeader {
     /// `HBCK` in every checkpoint.
-    pub magic: u32,
+    pub(crate) magic: u32,
     /// 1 or 2.
-    pub version: u8,
+    pub(crate) version: u8,
     /// The binary logarithm of the number of registers.
-    pub log2m: u8,
+    pub(crate) log2m: u8,
     /// The number of partitions.
-    pub parts: u16,
+    pub(crate) parts: u16,
     /// The number of the partition.
-    pub partition: u16,
+    pub(crate) partition: u16,
     /// How many vertices the graph has.
-    pub vertices: u32,
+    pub(crate) vertices: u32,
     /// How many vertices the partition has.
-    pub size: u32,
+    pub(crate) size: u32,
     /// The superstep.
-    pub superstep: u32,
+    pub(crate) superstep: u32,
     /// The job digest.
-    pub job: [u8; 32],
+    pub(crate) job: [u8; 32],
 }
 
 // The big-endian number of two bytes at a place.

@@ -12,17 +12,17 @@
 //! ```
 #![tactic(auto)]
 
-pub mod error;
+mod error;
 mod header;
 pub mod laws;
-pub mod length;
-pub mod read;
+mod length;
+mod read;
 mod saved;
 pub mod sizes;
 mod spool;
 mod stream;
 mod text;
-pub mod write;
+mod write;
 
 pub use ball_model::{CountedRead, CountedWrite};
 pub use error::KeepError;

@@ -15,7 +15,7 @@ use sha2::{Digest, Sha256};
 
 /// Bytes that wait to be digested and written, and the digest of those before them. It takes no memory.
 #[derive(Drop)]
-pub struct Spool {
+pub(crate) struct Spool {
     hasher: Sha256,
     piece: [u8; PIECE],
     used: usize,
@@ -26,7 +26,7 @@ impl Spool {
     ghost use Rattle.checkpoint.specs.Spooled.{PassesOn, waiting};
 
     /// No bytes.
-    pub fn new() -> Spool
+    pub(crate) fn new() -> Spool
         ensures empty { waiting result ≡ [] }
         ensures hasher { Holds256 result.hasher [] }
     {
@@ -38,7 +38,7 @@ impl Spool {
     }
 
     /// Fields follow, one after the other.
-    pub fn keep_all<W: CountedWrite>(
+    pub(crate) fn keep_all<W: CountedWrite>(
         &mut self,
         writer: &mut W,
         fields: &[&[u8]],
@@ -56,7 +56,11 @@ impl Spool {
     }
 
     /// These bytes follow.
-    pub fn keep<W: CountedWrite>(&mut self, writer: &mut W, bytes: &[u8]) -> Result<(), Failed>
+    pub(crate) fn keep<W: CountedWrite>(
+        &mut self,
+        writer: &mut W,
+        bytes: &[u8],
+    ) -> Result<(), Failed>
         ensures done { OnOk result (PassesOn W.contents W.failed_calls W.sure_calls W.room
             writer.old writer.new self.old self.new bytes.now) }
         ensures stops { OnErr result (StopsWriting W.contents W.failed_calls W.sure_calls W.room
@@ -75,7 +79,7 @@ impl Spool {
     }
 
     /// All is written, and after it its SHA-256.
-    pub fn seal<W: CountedWrite>(self, writer: &mut W) -> Result<(), Failed>
+    pub(crate) fn seal<W: CountedWrite>(self, writer: &mut W) -> Result<(), Failed>
         ensures done { OnOk result ((m : List ℕ) → Holds256 self.hasher m →
             Writes W.contents W.failed_calls W.sure_calls W.room
             writer.old writer.new (waiting self ++ sha256 (m ++ waiting self))) }
