@@ -15,5 +15,4 @@ given_numbers v inside was end view same p = subst (λ (x : SeatView). KeepsItsN
 pub given_seen : (v : SeatView) (inside was end : Grant) → granted inside ≡ v → was ≡ inside → Extends (caller_of was) (caller_of end) → Extends v.caller (caller_of end)
 given_seen v inside was end view same p = subst (λ (x : SeatView). Extends x.caller (caller_of end)) (ap granted same ∙ view) p
 
--- both lemmas
 pub ruleset given = (given_numbers, given_seen)

@@ -16,7 +16,7 @@ use Rattle.board.specs.Turn.{GoesOnBySeat}
 use Rattle.ball_model.proofs.HistoryLemmas.{begins_self, begins_trans}
 use Rattle.board.proofs.ViewLemmas.{total_set, total_le, each_set, apart_set, numbers_set, set_at}
 
--- what a step tells does not ask which step it is
+-- what is known after a step does not depend on which step it is
 abbrev pub still : Step (Option History)
 still = step 0 0 0 0 none
 

@@ -22,7 +22,7 @@ abbrev pub IsFetched : ℕ → ℕ → BatchName → History → History → Bat
 IsFetched limit by name old new batch =
     IsNoted limit by (Fetch name) old new × (batch ≡ true_batch old.job name)
 
--- a recall was noted, and this is a snapshot of the partition with the content that it tells
+-- a recall was noted, and this is a snapshot of the partition with the content that it names
 abbrev pub IsRecalled : ℕ → ℕ → ℕ → ℕ → History → History → State → Type 0
 IsRecalled limit by part least old new state =
     IsNoted limit by (Recall part least (holding_in state)) old new

@@ -1,4 +1,4 @@
--- The rule of the table, and what each step tells.
+-- The rule of the table, and what a seat knows after each step.
 use Rattle.std.specs.Prelude.{◌≡◌, ◌≢◌, ◌⊎◌, ℕ, ◌+◌, ◌-◌, ◌/◌, ◌%◌, ◌^◌, ◌<◌, ◌≤◌, ◌==◌, min, Bool, true, false, List, [], ◌∷◌, length, Option, Some, None}
 use mathlib.Core.Option.{some, none}
 use lib.ListN.{get_elem?}
@@ -133,7 +133,7 @@ after_turn v = record {
 abbrev pub DrewTicket : TableStep → SeatHas → ℕ → SeatHas → Type 0
 DrewTicket st m found m' = (t : ℕ) × (t % 2 ^ 64 ≡ found) × (m' ≡ (with_ticket m.0 t, m.1))
 
--- the whole history goes on from what was seen, and has no other calls of this seat, nor of one that it may make
+-- the whole history begins with what was seen, and has no other calls of this seat, nor of one that it may make
 abbrev pub GoesOn : View → History → Type 0
 GoesOn v log =
     Begins v.seen log × (calls_by v.number log ≡ calls_by v.number v.seen) × IsLegal log

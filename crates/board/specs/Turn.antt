@@ -22,7 +22,7 @@ abbrev pub IsSameSeat : View → View → Type 0
 IsSameSeat v w =
     (w.number ≡ v.number) × (w.room ≡ v.room) × (w.told ≡ v.told) × (w.limit ≡ v.limit)
 
--- the history goes on from what was seen, by calls of this seat alone
+-- the history begins with what was seen, and only calls of this seat follow
 pub record GoesOnBySeat (v : View) (book : History) : Type 0 where
   pub legal : IsLegal book
   pub longer : Begins v.seen book

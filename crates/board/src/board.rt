@@ -224,8 +224,8 @@ impl Board {
         Ok(reply)
     }
 
-    /// Finds the snapshot that is kept for a partition: None exactly if there is none whose superstep is `at_least` so
-    /// much, and then no entry is added. It is at least as far as what the seat had seen kept.
+    /// Finds the snapshot that is kept for a partition: None exactly if there is none whose superstep is `at_least`
+    /// or later, and then no entry is added. It is at least as far as what the seat had seen kept.
     ///
     /// [`BookFull`](BoardError::BookFull) if there is one and the history is full, then [`Memory`](BoardError::Memory)
     /// (also if it is shared 2^63 times). The snapshot is shared, not copied.

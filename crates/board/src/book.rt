@@ -33,7 +33,7 @@ use std::sync::Arc;
 ///
 /// It is what the threads at a [`Board`](crate::Board) take turns with, and by itself a board of one caller: each call
 /// is given the caller's number and how many entries the history may have, and the history is its model. If a call
-/// answers an error the book is as it was. What a call displaces it gives back, so that who calls may drop it when
+/// answers an error the book is as it was. What a call displaces it returns, so that the caller can drop it when
 /// nobody waits.
 #[derive(Drop)]
 pub(crate) struct Book {
@@ -133,7 +133,7 @@ impl Book {
         Ok(reply)
     }
 
-    /// Keeps a snapshot if it is further than the one kept for its partition, and notes the reply; it gives back the
+    /// Keeps a snapshot if it is further than the one kept for its partition, and notes the reply; it returns the
     /// one that it displaces. The snapshot is shared, not moved.
     ///
     /// [`BookFull`](BoardError::BookFull) if there are `limit` entries, then [`Memory`](BoardError::Memory) (also if
@@ -161,8 +161,8 @@ impl Book {
         Ok((reply, displaced))
     }
 
-    /// Finds the snapshot that is kept for a partition, if its superstep is `at_least` so much, and notes it: None
-    /// exactly if there is none, and then nothing is noted.
+    /// Finds the snapshot that is kept for a partition, if its superstep is `at_least` or later, and notes it:
+    /// None exactly if there is none, and then nothing is noted.
     ///
     /// [`BookFull`](BoardError::BookFull) if there is one and there are `limit` entries, then
     /// [`Memory`](BoardError::Memory) (also if it is shared 2^63 times).
@@ -192,7 +192,7 @@ impl Book {
         Ok(Some(copy))
     }
 
-    /// Raises the floor to `superstep` at least, and notes it; it gives back the batches below, which are no longer on
+    /// Raises the floor to `superstep` at least, and notes it; it returns the batches below, which are no longer on
     /// the board.
     ///
     /// [`BookFull`](BoardError::BookFull) if there are `limit` entries, then [`Memory`](BoardError::Memory).
@@ -255,7 +255,7 @@ fn put_batch(
     Ok(Posted::New)
 }
 
-// Puts a snapshot in its place if it is further than the one there, which is then given back.
+// Puts a snapshot in its place if it is further than the one there, which is then returned.
 fn put_snapshot(
     kept: &mut Vec<Option<Arc<Snapshot>>>,
     snapshot: Arc<Snapshot>,

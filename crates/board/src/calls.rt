@@ -12,7 +12,7 @@ use std::alloc::Global;
 use std::mem;
 use std::sync::Arc;
 
-/// How many entries lie side by side. The history grows by so many at once, so that no entry is ever moved far.
+/// How many entries a sheet holds. With sheets no call moves the whole history to make room for one entry more.
 const SHEET: usize = 1024;
 
 /// The calls of a history.
@@ -41,7 +41,7 @@ impl Calls {
         }
     }
 
-    /// How many entries the history has, the opening among them.
+    /// The number of entries, the opening among them.
     pub(crate) fn entries(&self) -> u32
         ensures { result ≡ self.now.entries }
     {
@@ -68,7 +68,7 @@ impl Calls {
         Ok(())
     }
 
-    /// Makes room for one more, and shares what it tells of.
+    /// Makes room for one more, and shares the batch or snapshot that it is about.
     pub(crate) fn share<T>(&mut self, value: &Arc<T>, limit: u32) -> Result<Arc<T>, BoardError>
         ensures entries { self.new.entries ≡ self.old.entries }
         ensures calls { calls_in self.new ≡ calls_in self.old }

@@ -26,9 +26,9 @@
 //! alone: a search among the batches, and an entry of the history. What it displaces is dropped after its turn. No rows
 //! are copied, and nothing is in proportion to the history.
 //!
-//! While a caller waits with a ticket, mostly nobody else draws one: who comes then looks some sixty times, and sleeps,
-//! 50 microseconds at first and 800 later, at most a thousand times. Who has a ticket looks some sixty times, and sleeps
-//! until it is woken. So the queue is short, and of many threads that call few have to be given a processor between two
+//! While a caller waits with a ticket, mostly nobody else draws one: a caller that comes then looks some sixty times,
+//! and then sleeps, 50 microseconds at first and 800 later, at most a thousand times. A caller with a ticket looks some
+//! sixty times, and then sleeps until it is woken. So the queue is short, and of many threads that call few have to be given a processor between two
 //! calls of one.
 //!
 //! An entry takes about 24 bytes. [`Board::length`] and [`Board::join`] take no turn and no memory.

@@ -10,7 +10,7 @@ use crate::board::Board;
 use crate::rule::{GivesNumbers, Pass};
 use std::marker::Model;
 
-/// A new seat gets one number in so many of those that its maker still has; who has fewer makes none.
+/// A new seat gets one in 1,024 of the numbers that its maker still has; a seat that has fewer makes none.
 const SHARE: u64 = 1024;
 
 /// What a seat was granted: a pass to the table, and numbers, the first of which is its own.

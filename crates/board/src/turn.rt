@@ -56,13 +56,13 @@ fn look_at_queue(table: &BoardTable) -> Option<u64>
     (next.wrapping_sub(serving) > 1).then_some(next)
 }
 
-// The half of a word by which a thread that is about to sleep tells whether the word has changed.
+// The half of a word by which a thread that is about to sleep sees whether the word has changed.
 fn low_half(word: u64) -> u32 {
     (word & 0xffff_ffff) as u32
 }
 
-// Lets time pass after so many looks at the queue: a moment at first, and then a sleep, longer each time up to 800
-// microseconds. It is short if a ticket is drawn just then.
+// Lets time pass after a look at the queue: a moment after the first looks, and then a sleep, longer each time up to
+// 800 microseconds. It is short if a ticket is drawn just then.
 fn pause_outside<R: Wait>(rt: &R, table: &BoardTable, looks: u32, next: u64)
     requires table { IsSized table.now.shared.table_id }
 {
@@ -76,7 +76,7 @@ fn pause_outside<R: Wait>(rt: &R, table: &BoardTable, looks: u32, next: u64)
         .park_timeout(rt, TICKETS, low_half(next), Duration::from_micros(micros));
 }
 
-// Waits until no other caller waits with a ticket, though no longer than for so many sleeps.
+// Waits until no other caller waits with a ticket, though at most for `SLEEPS` sleeps.
 fn wait_outside<R: Wait>(rt: &R, table: &BoardTable)
     requires table { IsSized table.now.shared.table_id }
 {
@@ -120,7 +120,7 @@ fn wait<R: Wait>(rt: &R, table: &BoardTable, pass: &mut Pass, ticket: u64)
     unreachable!()
 }
 
-// Lets a moment pass after so many looks, and counts one more; after the last it sleeps until another is served.
+// Lets a moment pass after one of the first looks, and counts one more; later it sleeps until another is served.
 fn pause<R: Wait>(rt: &R, table: &BoardTable, looks: u32, serving: u64) -> u32
     requires table { IsSized table.now.shared.table_id }
 {

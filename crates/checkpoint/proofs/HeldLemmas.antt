@@ -104,6 +104,6 @@ table_is_read marks tallies rows sums bytes after rest split then =
     let entries = flat_map (λ i. entry_bytes (slice_index_or marks i false) (slice_index_or tallies i no_figures) (slice_index_or rows i [])) (range_with_len 0 (length rows)) in
     split ∙ ap (λ (l : List ℕ). entries ++ l) then ∙ sym (append_assoc entries (flat_map (to_be_bytes w128) sums) rest)
 
--- what follows so many bytes
+-- what follows n bytes
 pub rest_is : (n : ℕ) (bytes front body : List ℕ) → bytes ≡ front ++ body → length front ≡ n → drop n bytes ≡ body
 rest_is n bytes front body split len = ap (drop n) split ∙ subst (λ (k : ℕ). drop k (front ++ body) ≡ body) len (drop-append_seam front body)

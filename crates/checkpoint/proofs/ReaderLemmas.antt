@@ -61,7 +61,7 @@ abbrev number : Result ℕ KeepError → ℕ
 number (Ok x) = x
 number (Err e) = 0
 
--- what is there where so many bytes are
+-- where n bytes are wanted and there, the form takes n
 pub needs-takes : (n k : ℕ) (bytes : List ℕ) → needs n bytes ≡ Ok k → n ≡ k
 needs-takes n k bytes e = elim (cases_lt (length bytes) n) [
   | inl lt ↦ let short = needs-err n bytes lt in absurd (cc)
@@ -199,7 +199,7 @@ adds_then {t} {u} {v} one two p q = record {
 pub text_kept : {t u : Text} {piece : List ℕ} → Adds t u piece → IsFresh t → u.whole ≡ true → u.bytes.items ≡ piece
 text_kept {piece} p fresh is = (p.kept is).1 ∙ ap (λ (l : List ℕ). l ++ piece) fresh.bytes
 
--- a piece of so many bytes stands behind a text
+-- a piece of n bytes follows a text
 abbrev pub piece_grows : {R : Type 0} {remaining : R → Option (List ℕ)} {failed : R → ℕ} {sure : R → Option ℕ} {a b : R} {piece : List ℕ} {t u : Text} (n : ℕ)
     → TakesBytes remaining failed sure a b piece → length piece ≡ n → Adds t u piece → Grows remaining failed sure (needs n) n a b t u
 piece_grows {piece} n p len grown = record { piece = piece; grown = grown; takes = p; is_form = λ rest. needs-piece n piece rest len; few = omega (arith, len) }
@@ -218,12 +218,12 @@ grows_then {a} {b} {c} {form} {n} second more p le q =
       few = omega (arith, length-append one two, p.few, q.few, le);
     }
 
--- so many bytes, as they are counted
+-- a refusal of n bytes, where n is written in another way
 pub fails_full : {R : Type 0} {remaining : R → Option (List ℕ)} {failed : R → ℕ} {sure : R → Option ℕ} {a b : R} {e : KeepError} (n m : ℕ)
     → m ≡ n → Fails remaining failed sure (needs m) m a b e → Fails remaining failed sure (needs n) n a b e
 fails_full {remaining} {failed} {sure} {a} {b} {e} n m is p = subst (λ (k : ℕ). Fails remaining failed sure (needs k) k a b e) is p
 
--- a piece of so many bytes, and what follows it
+-- a piece of n bytes was read, and what follows is not
 pub fails_after : {R : Type 0} {remaining : R → Option (List ℕ)} {failed : R → ℕ} {sure : R → Option ℕ} {a b c : R} {piece : List ℕ} {most : ℕ} {e : KeepError} (n : ℕ) (second : List ℕ → Form) (more : ℕ)
     → TakesBytes remaining failed sure a b piece → length piece ≡ n → n + most ≤ more → Fails remaining failed sure (second piece) most b c e → Fails remaining failed sure (followed (needs n) second) more a c e
 fails_after {piece} n second more p len le q =
@@ -244,7 +244,7 @@ grows_none remaining failed sure a t form most is = record {
   few = omega arith;
 }
 
--- ---- so many bytes, in pieces
+-- ---- n bytes, in pieces
 pub needs_then : {R : Type 0} {remaining : R → Option (List ℕ)} {failed : R → ℕ} {sure : R → Option ℕ} {a b c : R} {n m : ℕ} {t u v : Text} (k : ℕ)
     → k ≡ n + m → Grows remaining failed sure (needs n) n a b t u → Grows remaining failed sure (needs m) m b c u v → Grows remaining failed sure (needs k) k a c t v
 needs_then {a} {b} {c} {n} {m} k sum p q =
@@ -269,7 +269,7 @@ needs_fails {n} {m} {e} k le p q =
     fails_then (needs k) n k p.takes p.few le (λ rest is. let r = needs-refuses m e rest is in needs-err k (one ++ rest) (omega (arith, length-append one rest, e1, r.0, le)) ∙ r.1) q
 
 -- ---- batches
--- so many of all batches were read
+-- i of `count` batches were read
 pub record Walks {R : Type 0} (remaining : R → Option (List ℕ)) (failed : R → ℕ) (sure : R → Option ℕ) (plan : PlanValue) (count i each : ℕ) (a b : R) (t u : Text) : Type 0 where
   pub piece : List ℕ
   pub grown : Adds t u piece
@@ -414,7 +414,7 @@ seal_unread {remaining} {failed} {sure} {a} {b} {c} {digest} text p len few rise
     fails_then {form = λ _. Ok 0} (seal_form text) 32 33 p (omega (arith, len)) (omega arith) (λ rest is. absurd (cc))
     (record { few = few; rises = λ _. rises; counted = λ is. absurd (is tt); unsure = λ is _. unsure is; wanting = not_wanting errors.Read (λ is. is); due = λ bytes known is. absurd is })
 
--- ---- lengths that are told
+-- ---- lengths that are read
 pub told-refused : (plan : PlanValue) (piece bytes : List ℕ) → is_batch_length plan (from_be_bytes w64 piece) ≡ false → told_batch plan piece bytes ≡ Err errors.Shape
 unfolding told_batch
 told-refused plan piece bytes is = rw is refl

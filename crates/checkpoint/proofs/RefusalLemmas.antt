@@ -22,7 +22,7 @@ use Rattle.checkpoint.proofs.LawLemmas.{unsealed}
 use Rattle.checkpoint.proofs.LengthLemmas.{front_long}
 use Rattle.checkpoint.proofs.ReaderLemmas.{body_unread}
 
--- ---- what the content of a spelling tells
+-- ---- what the content of a spelling is
 pub record IsWritten (version : ℕ) (v : State) (text body : List ℕ) : Type 0 where
   pub version_is : (checkpoint_head_at (take 54 text)).version ≡ version
   pub step : v.superstep ≡ (checkpoint_head_at (take 54 text)).superstep
@@ -91,7 +91,7 @@ unnamed_keepable v k =
     level (suc (suc (suc i))) lt = absurd (omega (arith, lt))
 
 -- ---- refusals
--- what was read whole tells what no replica has, or finds no memory
+-- what was read whole is of no replica, or memory for it was refused
 pub body_refuses : {R : Type 0} {remaining : R → Option (List ℕ)} {failed : R → ℕ} {part : PartValue} {most : ℕ} {a b : R} (sure : R → Option ℕ) (e : KeepError)
     → Ends remaining failed (sealed_form part) most a b → IsOfBody e → (e ≡ errors.Shape → (bytes : List ℕ) → remaining a ≡ Some bytes → TellNone part bytes) → RefusesAs remaining failed sure part most a b e
 body_refuses sure e p of none = record {

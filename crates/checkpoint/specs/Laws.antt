@@ -1,4 +1,4 @@
--- What the bytes of a checkpoint tell. Each is the contract of a function of src/laws.rt.
+-- What the bytes of a checkpoint determine. Each is the contract of a function of src/laws.rt.
 use Rattle.std.specs.Prelude.{◌≡◌, ◌≢◌, ℕ, false}
 use Rattle.ball_model.specs.Checkpoint.{checkpoint_bytes, first_checkpoint_bytes, without_names}
 use Rattle.ball_model.specs.Job.{Job}

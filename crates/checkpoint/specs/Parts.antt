@@ -9,7 +9,7 @@ use Rattle.ball_model.specs.State.{State}
 use Rattle.batches.specs.declared.header.TheConstants.{HEADER_LEN as batch_head}
 use Rattle.checkpoint.specs.declared.sizes.TheConstants.{LENGTH_LEN}
 
--- which sources are heard, and whether one of them tells of a change
+-- which sources are heard, and whether one of them has changed vertices
 unfoldable pub heard_bytes : State → List ℕ
 heard_bytes v = to_be_bytes w64 (mask_of v.heard) ++ (mark_byte v.heard_change ∷ [])
 
@@ -17,10 +17,10 @@ heard_bytes v = to_be_bytes w64 (mask_of v.heard) ++ (mark_byte v.heard_change �
 unfoldable pub count_bytes : State → List ℕ
 count_bytes v = to_be_bytes w16 (length (kept_batches v.early))
 
--- the i-th of them, if there are so many
+-- the i-th of them, if there is one
 unfoldable pub nth_bytes : State → ℕ → List ℕ
 nth_bytes v i = flat_map early_bytes (option_to_list (slice_get (kept_batches v.early) i))
 
--- a batch of any plan has at most so many bytes, with its length before it
+-- the most bytes that a batch of any plan has, with its length before it
 abbrev pub longest_batch : ℕ
 longest_batch = LENGTH_LEN + (batch_head + most_vertices * (4 + 2 ^ 10))

@@ -25,7 +25,7 @@ use Rattle.checkpoint.specs.declared.sizes.TheConstants.{HEADER_LEN, ENTRY_LEN, 
 abbrev pub Form : Type 0
 Form = List ℕ → Result ℕ KeepError
 
--- so many bytes
+-- n bytes, whatever they are
 unfoldable pub needs : ℕ → Form
 needs n bytes = if nat_lt (length bytes) n then Err errors.Short else Ok n
 
@@ -75,7 +75,7 @@ fixed_length part h =
     length part.preds * (ENTRY_LEN + 2 ^ part.plan.log2m) + SUM_LEN * (h.superstep + 1)
     + (if h.version == 1 then 0 else HEARD_LEN + length part.preds * 2 ^ part.plan.log2m)
 
--- the length of a batch of at most so many rows as the first partition has vertices
+-- the length of a batch with at most as many rows as the first partition has vertices
 unfoldable pub is_batch_length : PlanValue → ℕ → Bool
 is_batch_length plan n =
     nat_le batch_head n && ((n - batch_head) % (4 + 2 ^ plan.log2m) == 0)
@@ -180,18 +180,18 @@ IsOfBytes errors.Read = ⊥
 IsOfBytes errors.Memory = ⊥
 IsOfBytes e = ⊤
 
--- memory was refused, or the bytes tell what no replica has
+-- memory was refused, or the bytes say what no replica has
 abbrev pub IsOfBody : KeepError → Type 0
 IsOfBody e = (e ≡ errors.Memory) ⊎ (e ≡ errors.Shape)
 
--- a reader that tells its bytes, its failed calls, and which calls are sure gave the bytes
+-- a reader with this rest of bytes, these failed calls and sure calls gave the bytes
 pub record TakesBytes {R : Type 0} (remaining : R → Option (List ℕ)) (failed : R → ℕ)
     (sure : R → Option ℕ) (old new : R) (bytes : List ℕ) : Type 0 where
   pub consumed : Consumes (remaining old) (remaining new) bytes
   pub counted : failed new ≡ failed old
   pub calls : AfterAtMost (length bytes) (sure old) (sure new)
 
--- the bytes of a form, at most so many, were read and put after what was there
+-- bytes of the form, `most` at most, were read and put after what was there
 pub record Grows {R : Type 0} (remaining : R → Option (List ℕ)) (failed : R → ℕ)
     (sure : R → Option ℕ) (form : Form) (most : ℕ) (old new : R) (before after : Text) : Type 0
   where
@@ -235,7 +235,7 @@ pub record Fails {R : Type 0} (remaining : R → Option (List ℕ)) (failed : R 
   pub wanting : e ≢ errors.Memory
   pub due : (bytes : List ℕ) → remaining old ≡ Some bytes → IsOfBytes e → form bytes ≡ Err e
 
--- all bytes were read, at most so many and no more, and are of the form
+-- all bytes were read, `most` at most, and they are of the form
 pub record Ends {R : Type 0} (remaining : R → Option (List ℕ)) (failed : R → ℕ) (form : Form)
     (most : ℕ) (old new : R) : Type 0 where
   pub few : TakesAtMost most (remaining old) (remaining new)
@@ -255,7 +255,7 @@ pub record TellNone (part : PartValue) (bytes : List ℕ) : Type 0 where
   pub first : (v : State) → IsKeepable v → v.part ≡ part → bytes ≢ first_checkpoint_bytes v
 
 -- a call failed that was not sure, memory was refused, the form of the part refuses the bytes, or they are of the form and
--- tell what no replica has
+-- say what no replica has
 pub record RefusesAs {R : Type 0} (remaining : R → Option (List ℕ)) (failed : R → ℕ)
     (sure : R → Option ℕ) (part : PartValue) (most : ℕ) (old new : R) (e : KeepError) : Type 0 where
   pub few : TakesAtMost most (remaining old) (remaining new)

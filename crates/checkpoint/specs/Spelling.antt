@@ -1,4 +1,4 @@
--- What a checkpoint tells, as its bytes are read.
+-- The bytes of a checkpoint, from the fields that are read of them.
 use Rattle.std.specs.Prelude.{ℕ, Bool, false, List, [], ◌∷◌, ◌++◌, length, slice_index_or}
 use Rattle.std.specs.List.{flat_map, range_with_len}
 use Rattle.std.specs.Int.{w16, w64, w128, to_be_bytes}

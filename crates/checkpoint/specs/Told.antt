@@ -1,4 +1,4 @@
--- What the bytes of a checkpoint tell of vertices, one after the other, and of the batches that are held.
+-- What the bytes of a checkpoint say of vertices, one after the other, and of the batches that are held.
 use Rattle.std.specs.Prelude.{◌≡◌, ℕ, ◌^◌, ◌≤◌, ◌<◌, Bool, false, List, [], ◌∷◌, ◌++◌, map, length, replicate, slice_index_or, slice_set, Result, Ok, Err, vec_capacity}
 use Rattle.std.specs.Arc.{arc_value}
 use Rattle.std.specs.List.{flat_map, range_with_len}
@@ -51,7 +51,7 @@ pub record IsAdded (old new : Vertices) (i : ℕ) (bytes rest : List ℕ) : Type
   pub rows : new.rows.rows ≡ slice_set old.rows.rows i row
   pub text : bytes ≡ entry_bytes mark (value_of tally) row ++ rest
 
--- ---- what bytes that are a spelling tell
+-- ---- what is read of bytes that are a spelling
 -- it is Ok and has this, unless memory was refused
 abbrev pub IfOkButMemory : {A : Type 0} → Result A KeepError → (A → Type 0) → Type 0
 IfOkButMemory (Ok x) has = has x

@@ -3,7 +3,7 @@ use Rattle.std.specs.Prelude.{◌≡◌, ◌-◌, ◌≤◌, ℕ, List, Option, 
 use Rattle.std.specs.Io.KnownBytes.{Appends}
 use Rattle.ball_model.specs.Streams.{AfterAtMost, AreSure, PutsFront, RisesByOne}
 
--- a writer that tells its bytes, its failed calls, and which calls are sure, took the bytes
+-- a writer with these contents, failed calls, sure calls and room took the bytes
 pub record Writes {W : Type 0} (contents : W → Option (List ℕ)) (failed : W → ℕ)
     (sure : W → Option ℕ) (room : W → ℕ) (old new : W) (bytes : List ℕ) : Type 0 where
   pub appended : Appends (contents old) (contents new) bytes

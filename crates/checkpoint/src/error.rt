@@ -30,7 +30,7 @@ pub enum KeepError {
     /// The partition is another one.
     #[error("the checkpoint is of another partition")]
     OtherPart,
-    /// The bytes tell what no replica of the partition has.
+    /// The bytes spell what no replica of the partition has.
     #[error("no replica has this shape")]
     Shape,
     /// Memory was refused. It is answered only if no check of the bytes up to their end fails.

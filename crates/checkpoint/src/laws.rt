@@ -3,7 +3,7 @@
 ghost use Rattle.checkpoint.specs.Laws.{TextIsOne, FirstTextTellsRest, VersionsDiffer};
 ghost use Rattle.checkpoint.specs.Laws.{WithoutNamesStands};
 
-/// No two states of a part have one text of version 2: what a replica writes tells all that it has.
+/// No two states of a part have one text of version 2: what a replica writes leaves out nothing.
 pub fn text_is_one()
     ensures { TextIsOne }
 {}

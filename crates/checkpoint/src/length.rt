@@ -46,7 +46,7 @@ fn early_length(replica: &Replica) -> u64
     length
 }
 
-// How many bytes the i-th of them has with its length before it, if there are so many.
+// The bytes of the i-th of them with its length before it: none if there is no such batch.
 fn nth_length(replica: &Replica, i: u32) -> u64
     ensures value { result ≡ length (nth_bytes replica.now i) }
     ensures few { result ≤ longest_batch }
@@ -57,7 +57,6 @@ fn nth_length(replica: &Replica, i: u32) -> u64
     }
 }
 
-// How many bytes a batch has.
 fn batch_length(batch: &Batch) -> u64
     ensures value { result ≡ length (batch_bytes batch.now) }
     ensures few { result + LENGTH_LEN ≤ longest_batch }

@@ -3,7 +3,7 @@
 //! [`write_checkpoint`] writes all that a replica has: registers, marks and figures of its vertices, the sums of its
 //! estimates, and the batches that it holds: what it has heard of its superstep, and what it keeps of later ones. The
 //! SHA-256 of all bytes follows them. What is written is a definition of `ball_model`. [`read_checkpoint`] reads it, and
-//! what version 1 wrote, which tells of no batches.
+//! what version 1 wrote, which has no batches.
 //!
 //! ```text
 //! let mut writer = MemWriter::with_room(alloc, checkpoint_length(&replica) as usize, None)?;

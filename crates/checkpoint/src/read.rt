@@ -130,7 +130,7 @@ fn fitting(part: &Part, saved: Saved) -> Result<Saved, KeepError>
     }
 }
 
-// What the reader tells of a replica of the part.
+// What the bytes of the reader say of a replica of the part.
 fn read_saved<R: CountedRead>(
     alloc: Global,
     part: &Part,
@@ -167,17 +167,16 @@ fn read_saved<R: CountedRead>(
 /// [`Shape`](KeepError::Shape) (fixed fields), `Short` (up to the accumulators, or in version 1 up to the sums); the
 /// number of early batches (`Short`, `Shape`), and each batch's length (`Short`, `Shape`) and bytes (`Short`); `Short`
 /// (digest), [`Digest`](KeepError::Digest), [`Trailing`](KeepError::Trailing); then [`Memory`](KeepError::Memory) for
-/// the text, and `Shape` and `Memory` of what the bytes tell. [`Read`](KeepError::Read) is answered if a call of the
+/// the text, and `Shape` and `Memory` of what the bytes say. [`Read`](KeepError::Read) is answered if a call of the
 /// reader fails.
 ///
 /// Memory is taken as the bytes come, never for a number that they only claim. If it is refused the rest is read
-/// without it, and checked as before. Version 1 tells of no batches.
+/// without it, and checked as before. Version 1 has no batches.
 pub fn read_checkpoint<R: CountedRead>(
     alloc: Global,
     part: Arc<Part>,
     reader: &mut R,
 ) -> Result<Replica, KeepError>
-    // The replica is of the part.
     ensures part { IfOk result (λ r. r.part ≡ arc_value part) }
     // If it is Ok, and if memory was refused, all bytes were read, their parts are in order, and the digest is right.
     ensures whole { OnOkOrMemory result (Ends R.remaining R.failed_calls
@@ -209,7 +208,6 @@ pub fn read_checkpoint<R: CountedRead>(
     // Memory is refused only after the checks of the fixed fields.
     ensures front { (bytes : List ℕ) → R.remaining reader.old ≡ Some bytes →
         OnOkOrMemory result (HasHead (arc_value part) bytes) }
-    // Which refusal it is, and what was read.
     ensures refused { IfErr result (λ e. RefusesAs R.remaining R.failed_calls R.sure_calls
         (arc_value part) (most_checkpoint_bytes (arc_value part) (arc_value part).plan.limit + 1)
         reader.old reader.new e) }

@@ -1,4 +1,4 @@
-//! What the bytes of a checkpoint tell of a replica.
+//! What the bytes of a checkpoint say of a replica.
 
 ghost use Rattle.std.specs.Prelude.{◌≡◌, ◌+◌, ◌^◌, ◌≤◌, ◌<◌, ◌++◌, ◌∷◌, [], ℕ, Bool, List};
 ghost use Rattle.std.specs.Prelude.{length, map, drop, replicate, slice_index_or, Ok, Err, IfOk};
@@ -53,7 +53,7 @@ struct Held {
     early: Vec<Arc<Batch>>,
 }
 
-// So many bytes, and those after them.
+// The first `count` bytes, and those after them.
 fn split_off(bytes: &[u8], count: usize) -> Result<(&[u8], &[u8]), KeepError>
     ensures split { IfOk result (λ r. bytes.now ≡ r.0.now ++ r.1.now) }
     ensures length { IfOk result (λ r. length r.0.now ≡ count) }
@@ -88,7 +88,6 @@ fn read_u128(bytes: &[u8]) -> Result<(u128, &[u8]), KeepError>
     Ok((u128_at(number, 0), rest))
 }
 
-// Adds an item at the end.
 fn add<T: Drop>(items: &mut Vec<T>, item: T) -> Result<(), AllocError>
     ensures { OnOk result (items.new.items ≡ items.old.items ++ item ∷ []) }
 {
@@ -137,7 +136,7 @@ fn figures_of(bytes: &[u8]) -> Result<((bool, Tally), &[u8]), KeepError>
     }
 }
 
-// Adds the vertex with this index, whose registers are zeros so far, and answers the bytes after it.
+// Adds the vertex with this index, whose registers are zeros so far, and returns the bytes after it.
 fn add_vertex<'a>(vertices: &mut Vertices, i: usize, bytes: &'a [u8]) -> Result<&'a [u8], KeepError>
     requires place { i < length vertices.old.rows.rows }
     requires marks { length vertices.old.marks.items ≡ i }
@@ -164,7 +163,7 @@ fn add_vertex<'a>(vertices: &mut Vertices, i: usize, bytes: &'a [u8]) -> Result<
     Ok(rest)
 }
 
-// Adds the vertices, ascending, if there are none yet, and answers the bytes after them.
+// Adds the vertices, ascending, if there are none yet, and returns the bytes after them.
 fn add_vertices<'a>(vertices: &mut Vertices, bytes: &'a [u8]) -> Result<&'a [u8], KeepError>
     requires none { AreNone vertices.old }
     requires room { HasRoomForAll vertices.old }
@@ -201,7 +200,7 @@ fn no_vertices(alloc: Global, part: &Part) -> Result<Vertices, AllocError>
     })
 }
 
-// Adds so many sums, for which there is room, and answers the bytes after them.
+// Adds `count` sums, for which there is room, and returns the bytes after them.
 fn add_sums<'a>(sums: &mut Vec<u128>, count: usize, bytes: &'a [u8]) -> Result<&'a [u8], KeepError>
     requires none { sums.old.items ≡ [] }
     requires room { count ≤ vec_capacity sums.old }
@@ -239,7 +238,7 @@ fn read_sums(alloc: Global, superstep: u32, bytes: &[u8]) -> Result<(Vec<u128>, 
     Ok((sums, rest))
 }
 
-// Puts the registers of each row, all of which are 0, and answers the bytes after them.
+// Puts the registers of each row, all of which are 0, and returns the bytes after them.
 fn put_rows<'a>(rows: &mut Rows, bytes: &'a [u8]) -> Result<&'a [u8], KeepError>
     requires { All (λ row. row ≡ replicate rows.old.width 0) rows.old.rows }
     ensures spelled { IfOk result (λ rest.
@@ -262,7 +261,7 @@ fn put_rows<'a>(rows: &mut Rows, bytes: &'a [u8]) -> Result<&'a [u8], KeepError>
     Ok(rest)
 }
 
-// Why a batch is refused, as a checkpoint's reader tells it.
+// What a checkpoint's reader answers if a batch is refused.
 fn refusal(e: BatchError) -> KeepError
     ensures memory { (b : BatchValue) → GivesBatchOrMemory (Err e) (Ok b) →
         result ≡ KeepError.Memory }
@@ -308,7 +307,7 @@ fn read_batch<'a>(
     Ok((decode(alloc, part, spelling)?, rest))
 }
 
-// Adds so many batches, and answers the bytes after them.
+// Adds `count` batches, and returns the bytes after them.
 fn add_batches<'a>(
     alloc: Global,
     part: &Part,
@@ -362,7 +361,7 @@ fn no_rows(alloc: Global, part: &Part) -> Result<Rows, AllocError>
     Rows::fixed(alloc, part.size(), part.plan().width() as u16)
 }
 
-// What version 2 tells of the batches that are held; nothing follows it.
+// What version 2 has of the batches that are held; nothing follows it.
 fn read_held(alloc: Global, part: &Part, bytes: &[u8]) -> Result<Held, KeepError>
     ensures spelled { IfOk result (λ h. bytes.now ≡ held_text h.heard h.heard_change
         h.accumulated.rows (map arc_value h.early.items)) }
@@ -423,7 +422,7 @@ fn read_table<'a>(
     Ok((vertices, sums, rest))
 }
 
-// What is held: what version 2 tells, or nothing in version 1.
+// What is held: what version 2 has of it, or nothing in version 1.
 fn held_of(
     alloc: Global,
     part: &Part,
@@ -453,7 +452,7 @@ fn held_of(
     nothing_held(alloc, part, rows)
 }
 
-/// What the bytes up to the digest tell of a replica of the part.
+/// What the bytes up to the digest say of a replica of the part.
 pub(crate) fn saved_of(
     alloc: Global,
     part: &Part,

@@ -9,7 +9,7 @@ pub const ENTRY_LEN: usize = 33;
 /// Each sum.
 pub const SUM_LEN: usize = 16;
 
-/// What is heard, and whether it tells of a change.
+/// Which sources are heard, and whether one of them has changed vertices.
 pub const HEARD_LEN: usize = 9;
 
 /// The number of batches.

@@ -31,7 +31,7 @@ pub(crate) fn u64_at(bytes: &[u8], at: usize) -> u64
     u64::from_be_bytes(number)
 }
 
-// Fills a buffer.
+// Fills a buffer: bytes that end before it is full are too few.
 pub(crate) fn read_full<R: CountedRead>(reader: &mut R, buffer: &mut [u8]) -> Result<(), KeepError>
     ensures done { OnOk result (TakesBytes R.remaining R.failed_calls R.sure_calls
         reader.old reader.new buffer.new) }
@@ -64,7 +64,7 @@ fn read_piece<R: CountedRead>(
     Ok(())
 }
 
-// Reads so many bytes, which are put after the text: it grows as they come.
+// Reads `count` bytes piece by piece: the text grows as they come.
 fn read_more<R: CountedRead>(reader: &mut R, text: &mut Text, count: usize) -> Result<(), KeepError>
     ensures done { OnOk result (Grows R.remaining R.failed_calls R.sure_calls (needs count) count
         reader.old reader.new text.old text.new) }
@@ -80,7 +80,7 @@ fn read_more<R: CountedRead>(reader: &mut R, text: &mut Text, count: usize) -> R
     Ok(())
 }
 
-// Whether a batch of at most so many rows as the first partition has vertices has this length.
+// Whether this is the length of a batch with at most as many rows as the first partition has vertices.
 #[tactic(auto, unfolding(crate::specs::Reading::is_batch_length))]
 fn may_be_batch(plan: &Plan, length: u64) -> bool
     ensures { result ≡ is_batch_length plan.now length }
@@ -93,7 +93,7 @@ fn may_be_batch(plan: &Plan, length: u64) -> bool
     (length - head) % row == 0 && (length - head) / row <= u64::from(plan.part_size(0))
 }
 
-// Reads a batch and before it its length.
+// Reads the length of a batch, and the batch.
 fn read_batch<R: CountedRead>(reader: &mut R, plan: &Plan, text: &mut Text) -> Result<(), KeepError>
     ensures done { OnOk result (Grows R.remaining R.failed_calls R.sure_calls (batch_form plan.now)
         (LENGTH_LEN + greatest_batch plan.now)
@@ -111,7 +111,7 @@ fn read_batch<R: CountedRead>(reader: &mut R, plan: &Plan, text: &mut Text) -> R
     read_more(reader, text, length as usize)
 }
 
-// Reads so many batches.
+// Reads `count` batches, each after its length.
 fn read_batches<R: CountedRead>(
     reader: &mut R,
     plan: &Plan,
@@ -131,7 +131,7 @@ fn read_batches<R: CountedRead>(
     Ok(())
 }
 
-// Reads the early batches and before them their number.
+// Reads the number of early batches, and the batches.
 fn read_early<R: CountedRead>(reader: &mut R, plan: &Plan, text: &mut Text) -> Result<(), KeepError>
     ensures done { OnOk result (Grows R.remaining R.failed_calls R.sure_calls (early_form plan.now)
         (most_early plan.now) reader.old reader.new text.old text.new) }
@@ -184,7 +184,7 @@ pub(crate) fn read_body<R: CountedRead>(
     read_early(reader, part.plan(), text)
 }
 
-// Reads this digest of what came before it, after which nothing may come.
+// Reads the digest, which has to be this one, and sees that nothing follows it.
 pub(crate) fn read_seal<R: CountedRead>(reader: &mut R, right: &[u8; 32]) -> Result<(), KeepError>
     ensures done { OnOk result (Consumes (R.remaining reader.old) (R.remaining reader.new)
         right.now) }

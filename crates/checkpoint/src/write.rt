@@ -56,7 +56,7 @@ fn keep_sealed<W: CountedWrite>(replica: &Replica, writer: &mut W) -> Result<(),
     spool.seal(writer)
 }
 
-// All of a replica.
+// All that is digested.
 fn keep_replica<W: CountedWrite>(
     replica: &Replica,
     spool: &mut Spool,
@@ -117,7 +117,6 @@ fn keep_table<W: CountedWrite>(
     keep_sums(replica.sums(), spool, writer)
 }
 
-// The vertices.
 fn keep_vertices<W: CountedWrite>(
     replica: &Replica,
     spool: &mut Spool,
@@ -184,7 +183,6 @@ fn vertex(replica: &Replica, i: u32) -> u32
     i * u32::from(replica.plan().parts()) + u32::from(replica.partition())
 }
 
-// The sums.
 fn keep_sums<W: CountedWrite>(
     sums: &[u128],
     spool: &mut Spool,
@@ -218,7 +216,7 @@ fn keep_held<W: CountedWrite>(
     keep_early(replica, spool, writer)
 }
 
-// Which sources are heard, and whether one of them tells of a change.
+// Which sources are heard, and whether one of them has changed vertices.
 fn keep_heard<W: CountedWrite>(
     replica: &Replica,
     spool: &mut Spool,
@@ -288,7 +286,7 @@ fn keep_early<W: CountedWrite>(
     Ok(())
 }
 
-// The i-th of the batches that are kept, if there are so many.
+// The i-th of the batches that are kept, if there is one.
 fn keep_nth<W: CountedWrite>(
     replica: &Replica,
     i: u32,
@@ -321,7 +319,6 @@ fn keep_batch<W: CountedWrite>(
     keep_rows(batch, spool, writer)
 }
 
-// The rows of a batch.
 fn keep_rows<W: CountedWrite>(
     batch: &Batch,
     spool: &mut Spool,

@@ -67,7 +67,7 @@ pub sum_dealt : (f : ℕ → ℕ) (n parts : ℕ) → 1 ≤ parts → sum_by (λ
 unfolding vertices_of
 sum_dealt f n parts some = dealt f parts (range_with_len 0 n) some
 
--- a sum over things of which the one at place i is told by a + i
+-- a sum over things of which the one at place i has the value of a + i
 pub sum_places : {X : Type 0} (f : X → ℕ) (h : ℕ → ℕ) (a : ℕ) (xs : List X) → ((i : ℕ) (d : X) → i < length xs → f (get_or xs i d) ≡ h (a + i)) →
     sum_by f xs ≡ sum_by h (range_with_len a (length xs))
 sum_places f h a [] e = refl

@@ -9,7 +9,7 @@ use Rattle.report.specs.Parts.{AreAmong, figures_at, lists_in, zero_figures}
 own_list : (parts : List (Vec Figures Global)) (p : ℕ) (own : Vec Figures Global) → p < length parts → own ≡ get_or parts p own → get_or (lists_in parts) p [] ≡ own.items
 own_list parts p own lt is = get_or-map (λ v. v.items) parts p own [] lt ∙ ap (λ v. v.items) (sym is)
 
--- what it says that a vertex has a place, of vectors
+-- that a vertex has a place, for vectors
 pub record IsPlaced (first x : ℕ) (parts : List (Vec Figures Global)) : Type 0 where
   pub some : 0 < length parts
   pub from : first ≤ x / length parts

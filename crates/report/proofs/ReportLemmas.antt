@@ -12,7 +12,7 @@ use Rattle.report.proofs.ReadyLemmas.{AreReady, are_ready-facts}
 use Rattle.report.proofs.EndingLemmas.{IsEnded, is_ended}
 use Rattle.report.proofs.WholeLemmas.{AllAt, all_at, report_is}
 
--- the head, of what the first replica tells, and all lines are the report of each job that all stand for
+-- the head, by superstep and verdict of the first replica, and all lines are the report of each job that all stand for
 pub report_text : (network : Network) (vs : List State) (v : State) (t : ℕ) (stable : Bool) → are_ready vs ≡ true → v ≡ get_or vs 0 v → t ≡ v.superstep → stable ≡ says_stable (found_verdict v) → FindsVerdict v →
     (j : Job) → j.graph ≡ network.graph → AllStand j vs → head_text (totals_in vs t) t stable ++ lines_of_all network vs ≡ job_report j network.labels
 report_text network vs v t stable is_ready is at told finds j same stands =

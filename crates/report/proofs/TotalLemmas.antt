@@ -1,4 +1,4 @@
--- Sums over partitions, as far as 128 bits can tell them.
+-- Sums over partitions, cut at the greatest number of 128 bits.
 use Rattle.std.proofs.Common.{◌≡◌, ℕ, ◌+◌, ◌<◌, List, length, get_or, min, take, ap, arith, ◌∙◌}
 use Rattle.std.specs.List.{sum_by}
 use Rattle.std.proofs.lemmas.List.Sums.{sum_by_more}

@@ -10,7 +10,8 @@
 //!
 //! [`report_ready`] says whether replicas are at the end of their run, and [`write_report`] writes their report, by all
 //! processors; [`write_report_by`] does so by as many threads as are asked for.
-//! [`totals_text`] and [`figures_text`] give lines of it alone. Written into [`Pages`], it goes out when it is whole.
+//! [`totals_text`] and [`figures_text`] give lines of it alone. A report that is written into [`Pages`]
+//! can be held back until it is whole.
 #![tactic(auto)]
 
 pub mod laws;

@@ -13,7 +13,7 @@ use std::io;
 use std::io::{ErrorKind, Write};
 use std::marker::Model;
 
-/// A text that is kept in pieces, as they were written: each goes where memory is free.
+/// A text that is kept in pieces, as they were written. No piece is moved when another one follows.
 ///
 /// Its model is the text: all pages, one after another.
 #[derive(Drop)]

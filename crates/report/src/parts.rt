@@ -20,7 +20,7 @@ use std::thread::Threads;
 // The bytes of the usual line.
 const USUAL_LINE: usize = 96;
 
-// The sum of the partitions' sums at superstep `i`, as far as 128 bits can tell it.
+// The sum of the partitions' sums at superstep `i`, or the greatest number of 128 bits if it is greater.
 fn total(replicas: &[Replica], i: usize) -> u128
     requires { All (λ v. i ≤ v.superstep) replicas.now }
     ensures { result ≡ total_in replicas.now i }
@@ -45,8 +45,8 @@ fn totals(alloc: Global, replicas: &[Replica], end: u32) -> Result<Vec<u128>, Al
     Ok(totals)
 }
 
-// The figures of a replica's vertices at some places, as far as there are such, by at most so many threads, or by all
-// processors if 0 are asked for.
+// The figures of a replica's vertices at some places, as far as there are such. At most `threads` threads make them,
+// or all processors if that is 0.
 fn own_figures<T: AllocGlobal + Threads + Sync>(
     rt: &T,
     replica: &Replica,
@@ -104,7 +104,7 @@ pub(crate) struct Block {
 }
 
 impl Block {
-    // The figures of these vertices. They are made by at most so many threads, or by all processors if 0 are asked for.
+    // The figures of these vertices. At most `threads` threads make them, or all processors if that is 0.
     pub(crate) fn of<T: AllocGlobal + Threads + Sync>(
         rt: &T,
         replicas: &[Replica],

@@ -142,8 +142,8 @@ fn put_vertices<T: AllocGlobal + Threads + Sync, W: CountedWrite>(
 ///
 /// Lines of comma-separated values: the neighbourhood function at each superstep, the end, the gain, and each vertex
 /// with its label, estimate, harmonic centrality, closeness, Lin's index and number of empty registers, in order of
-/// its number (HyperBall 2013). The figures of some vertices at a time are made by all processors, and the text goes
-/// out in pieces: what was written before an error is a beginning of the report.
+/// its number (HyperBall 2013). The figures of some vertices at a time are made by all processors, and the text is
+/// written in pieces: what was written before an error is a beginning of the report.
 ///
 /// For a library's user: the program does not call it.
 pub fn write_report<T: AllocGlobal + Threads + Sync, W: CountedWrite>(
@@ -166,8 +166,8 @@ pub fn write_report<T: AllocGlobal + Threads + Sync, W: CountedWrite>(
     write_report_by(rt, writer, graph, replicas, 0)
 }
 
-/// Writes the report as [`write_report`] does. The figures are made by at most so many threads; by all processors if 0
-/// are asked for.
+/// Writes the report as [`write_report`] does. The figures are made by at most `threads` threads, or by all processors
+/// if that is 0.
 pub fn write_report_by<T: AllocGlobal + Threads + Sync, W: CountedWrite>(
     rt: &T,
     writer: &mut W,

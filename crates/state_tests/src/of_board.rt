@@ -45,7 +45,7 @@ impl Model for Setting {
     ghost invariant = { λ s. IsJob (job_of s.graph.graph s.plan) };
 }
 
-/// The two edges in so many partitions. Of two, a and c are in the first, and b in the second.
+/// The two edges in `parts` partitions. Of two, a and c are in the first, and b in the second.
 fn two_edges<R: AllocGlobal + RandomSource>(rt: &R, parts: u16) -> Option<Setting> {
     let alloc = rt.alloc();
     let mut builder = GraphBuilder::new(alloc, RandomState::new(rt).ok()?);
@@ -87,7 +87,7 @@ fn replica(alloc: Global, setting: &Setting, p: u16) -> Option<Box<Replica>>
     boxed(alloc, replica)
 }
 
-/// What a replica tells a partition.
+/// The batch that a replica has for a partition.
 fn told(alloc: Global, setting: &Setting, from: &Replica, target: u16) -> Option<Arc<Batch>>
     requires { Stands setting.now from.now }
     ensures { IfSome result (λ a. IsTrueBatch setting.now (arc_value a)) }
@@ -113,7 +113,7 @@ fn snapshot_of(alloc: Global, setting: &Setting, from: &mut Replica) -> Option<A
     shared(alloc, snapshot)
 }
 
-/// A replica holds what another one tells it, and that is added to the batches.
+/// A replica takes the batch that another one has for it, which is added to the batches.
 fn tell(
     alloc: Global,
     setting: &Setting,
@@ -135,7 +135,7 @@ fn tell(
     batches.push(batch).ok()
 }
 
-/// A replica goes on to the next superstep, or stays if the run is over.
+/// A replica closes its superstep, or stays there if the run is over.
 fn go_on(setting: &Setting, replica: &mut Replica)
     requires { Stands setting.now replica.old }
     ensures { Stands setting.now replica.new }
@@ -179,7 +179,7 @@ impl Stock {
         })
     }
 
-    /// Both tell each other of their superstep, and go on.
+    /// Both take the batches that they have for each other, and close.
     fn go_on(&mut self, alloc: Global) -> Option<()> {
         let (setting, batches) = (&self.setting, &mut self.batches);
         tell(alloc, setting, &self.first, &mut self.second, batches)?;
@@ -207,7 +207,7 @@ struct Scene {
 }
 
 impl Scene {
-    /// One of a new board of so many entries, and its first seat: None if memory was refused.
+    /// One with a new board of `entries` entries, and its first seat: None if memory was refused.
     fn open<R: AllocGlobal + RandomSource>(rt: &R, entries: u32) -> Option<(Scene, Seat)>
         requires { (LEAST_ENTRIES ≤ entries) × (entries ≤ MOST_ENTRIES) }
         ensures seat { IfSome result (λ r.
@@ -275,8 +275,8 @@ impl<'a> User<'a> {
         self.at.board.join(&mut self.seat, ended.seat);
     }
 
-    /// Whether a call about the batch at a place is answered so: of eight round and round, four that the first tells, then
-    /// four that the second tells.
+    /// Whether a call about the batch at a place is answered so. Places count round the eight batches: four of the first
+    /// replica, then four of the second.
     fn is_answered<R: Wait>(&mut self, rt: &R, at: usize, step: Step) -> Result<bool, BoardError>
         ensures { self.new ≡ self.old }
     {

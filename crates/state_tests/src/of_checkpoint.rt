@@ -17,7 +17,7 @@ use replica::Replica;
 use std::sync::Arc;
 use worked::{TWO_EARLY, TWO_EDGES};
 
-/// One of so many parts of a graph, at 16 registers under seed 0.
+/// One of the `parts` parts of a graph, at 16 registers under seed 0.
 fn part_in(rt: &HostRuntime, graph: &Graph, parts: u16, partition: u16) -> Option<Arc<Part>> {
     let plan = graph.plan(4, 0, parts, 4096).ok()?;
     if partition >= plan.parts() {
@@ -27,7 +27,7 @@ fn part_in(rt: &HostRuntime, graph: &Graph, parts: u16, partition: u16) -> Optio
     Arc::new(rt.alloc(), part).ok()
 }
 
-/// One of so many parts of the graph of an edge list.
+/// One of the `parts` parts of the graph of an edge list.
 fn part_of(rt: &HostRuntime, text: &[u8], parts: u16, partition: u16) -> Option<Arc<Part>> {
     let graph = graph_of(rt, text)?;
     part_in(rt, &graph, parts, partition)
@@ -49,17 +49,17 @@ fn replica_of(rt: &HostRuntime, part: &Arc<Part>) -> Option<Box<Replica>> {
     Box::new(rt.alloc(), replica).ok()
 }
 
-/// Whether all that the tests tell of the two edges holds: read whole, cut, damaged, and written into writers that fail.
+/// Whether the checkpoints of the two edges are right: read whole, cut, damaged, and written into writers that fail.
 fn edges_hold(rt: &HostRuntime, part: &Arc<Part>) -> bool {
     edges_are_read(rt, part) && are_told(rt, part) && are_cut(rt, part, &TWO_EDGES)
 }
 
-/// And of the early batches.
+/// Whether those with early batches are.
 fn early_holds(rt: &HostRuntime, part: &Arc<Part>) -> bool {
     early_is_read(rt, part) && are_cut(rt, part, &TWO_EARLY)
 }
 
-/// Whether both hold, and a replica that goes out in pieces is cut by each failing call.
+/// Whether both are, and a replica that is written in pieces is cut by each failing call.
 fn all_hold(rt: &HostRuntime) -> Option<bool> {
     let both = edges_hold(rt, &whole(rt)?) && early_holds(rt, &half(rt)?);
     Some(both && many_are_cut(rt, &part_of(rt, VERTICES, 1, 0)?))

@@ -117,7 +117,7 @@ fn add_replicas<H: AllocGlobal>(
     Some(())
 }
 
-// One replica takes what another tells it.
+// One replica takes the batch that another has for it.
 fn tell<H: AllocGlobal>(rt: &H, source: &Replica, target: &mut Replica) -> Option<Taken> {
     let to = target.partition();
     if to >= source.plan().parts() || to == source.partition() {
@@ -128,7 +128,7 @@ fn tell<H: AllocGlobal>(rt: &H, source: &Replica, target: &mut Replica) -> Optio
     target.take(batch).ok()
 }
 
-// One replica and each of some others tell each other.
+// One replica and each of some others take the batches that they have for each other.
 fn tell_each<H: AllocGlobal>(rt: &H, one: &mut Replica, others: &mut [Replica]) -> Option<()> {
     for other in others.iter_mut() {
         tell(rt, one, other)?;
@@ -137,7 +137,7 @@ fn tell_each<H: AllocGlobal>(rt: &H, one: &mut Replica, others: &mut [Replica]) 
     Some(())
 }
 
-// Each replica takes what every other one tells it.
+// Each replica takes the batch that every other one has for it.
 fn exchange<H: AllocGlobal>(rt: &H, all: &mut [Replica]) -> Option<()> {
     for i in 0..all.len() {
         let (one, others) = all[i..].split_first_mut()?;
@@ -154,7 +154,7 @@ fn close_all(all: &mut [Replica]) -> Option<()> {
     Some(())
 }
 
-// The replicas go on to superstep `t`, and hold all that others tell of it.
+// The replicas come to superstep `t`, and hold all batches of it.
 fn run_to<H: AllocGlobal>(rt: &H, all: &mut [Replica], t: u32) -> Option<()> {
     exchange(rt, all)?;
     for _ in 0..t {
@@ -204,7 +204,7 @@ fn are_of(graph: &Graph, replicas: &[Replica]) -> bool
     true
 }
 
-// The answer for replicas that are ready, by so many threads at most; by all processors if it is 0.
+// The answer for replicas that are ready, by at most `threads` threads, or by all processors if that is 0.
 fn written<H: AllocGlobal + Threads + Sync, W: CountedWrite>(
     rt: &H,
     writer: &mut W,
@@ -221,7 +221,7 @@ fn written<H: AllocGlobal + Threads + Sync, W: CountedWrite>(
     Some(write_report_by(rt, writer, graph, replicas, threads))
 }
 
-// Whether this is their report, by so many threads.
+// Whether this is their report, by at most `threads` threads.
 fn reports<H: AllocGlobal + Threads + Sync>(
     rt: &H,
     graph: &Graph,
@@ -240,7 +240,7 @@ fn reports<H: AllocGlobal + Threads + Sync>(
     answer == Some(Ok(())) && output.as_slice() == wanted
 }
 
-// Whether the report of a graph in so many partitions is the worked one.
+// Whether the report of a graph in `parts` partitions is the worked one.
 fn is_report_of<H: AllocGlobal + Threads + Sync>(
     rt: &H,
     graph: &Graph,
@@ -403,7 +403,7 @@ fn two_edges_in<H: AllocGlobal + RandomSource + Threads + Sync>(
     written_in(rt, &graph, calls)
 }
 
-// The report goes out in two pieces, and a failure of either is answered.
+// The report is written in two pieces, and a failure of either is answered.
 static CALLS: [(u32, Result<(), ReportError>); 3] = [
     (0, Err(ReportError::Write)),
     (1, Err(ReportError::Write)),

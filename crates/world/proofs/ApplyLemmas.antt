@@ -255,7 +255,7 @@ sent_shows j w v n id q shows at fits = record {
   count = shows.count;
 }
 
--- what the replica of a node tells
+-- the batch that the replica of a node has
 pub record Tells (j : Job) (r : State) (q : ℕ) (b : BatchValue) : Type 0 where
   pub told : (p t : ℕ) → StandsFor j p t r → b ≡ true_batch j (record { superstep = t; source = p; target = q })
 

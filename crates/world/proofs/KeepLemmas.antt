@@ -1,4 +1,4 @@
--- What a node keeps, and goes back to: the proofs about `Node` cite these.
+-- What a node keeps, and returns to: the proofs about `Node` cite these.
 use Rattle.std.proofs.Common.{◌≡◌, ◌⊎◌, inl, inr, ℕ, ◌<◌, ◌≤◌, List, refl, ap, sym, ◌∙◌, subst, arith}
 use Rattle.std.specs.Prelude.{Option, None, Some, IfSome, Result, Ok, Err, IfOk, unwrap_or}
 use Rattle.std.specs.List.{All}

@@ -44,12 +44,12 @@ replay-is s edges list script events world ready plain = record {
   replay = record { planned = ready.begun.started.planned; text_is = refl };
 }
 
--- what is told of all jobs and worlds that are shown is told of the start of this one
+-- what is said of all jobs and worlds that are shown holds of the start of this one
 told : (P : List ℕ → Type 0) (s : ReplaySettings) (edges : List ℕ) (list : Option (List ℕ)) (script : List ℕ) (events : List Event) (world : SeenWorld) → (ready : IsReady s edges list script events world) →
     ((j : Job) (w : World) → Shows j w world → P (events_text j w events)) → P (text_over s ready.network events)
 told P s edges list script events world ready all = all (job_over s.run.numbers ready.network) (start_world (plan_over s.run.numbers ready.network.graph) s.replicas) ready.begun.started.shows
 
--- all events were told
+-- the text of all events was written
 pub told-some : {W : Type 0} (contents : W → Option (List ℕ)) (failed : W → ℕ) (a b : W) (s : ReplaySettings) (edges : List ℕ) (list : Option (List ℕ)) (script : List ℕ) (events : List Event) (world : SeenWorld) →
     IsReady s edges list script events world → ((j : Job) (w : World) → Shows j w world → TextWritten contents failed a b (events_text j w events)) →
     AppendsSomeReplay s script (contents a) (contents b)

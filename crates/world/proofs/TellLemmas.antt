@@ -116,7 +116,7 @@ texts-cut g f i k =
     ∙ ap (flat_map g) (map-append f (range_with_len 0 i) (range_with_len i (suc k)))
     ∙ flat_map-append g (map f (range_with_len 0 i)) (map f (range_with_len i (suc k)))
 
--- one of them more was told
+-- one of them more was written
 pub told-next : {W : Type 0} (contents : W → Option (List ℕ)) (failed : W → ℕ) (a b c : W) (g : ℕ → List ℕ) (f : ℕ → ℕ) (i x : ℕ) → x ≡ f i →
     TextWritten contents failed a b (first-texts g f i) → TextWritten contents failed b c (g x) → TextWritten contents failed a c (first-texts g f (i + 1))
 told-next contents failed a b c g f i x at one two =
@@ -193,13 +193,13 @@ shown-at j w (event.Show id) (Some n) is = refl
 pub shown-leaves : (j : Job) (w : World) (e : Event) (r : Result Answer WorldError) → r ≡ answer_of j w e → is_shown r ≡ true → after_event j w e ≡ w
 shown-leaves j w e r is shown = shown-at j w e (node_at w (node_of e)) (ap is_shown (sym is) ∙ shown)
 
--- what is told of a node that is looked at
+-- the text of a node that is looked at
 pub shown-text : (j : Job) (w : World) (e : Event) (r : Result Answer WorldError) (id : NodeId) → r ≡ answer_of j w e → is_shown r ≡ true → id ≡ node_of e → show_unless j id (node_at w id) ≡ event_text j w e
 unfolding event_text
 shown-text j w e r id is shown at =
     ap (λ id. show_unless j id (node_at w id)) at ∙ ap (outcome_text j w e) (sym (shown-is r shown) ∙ is)
 
--- what is told of another event
+-- the text of another event
 pub other-text : (j : Job) (w : World) (e : Event) (r : Result Answer WorldError) → r ≡ answer_of j w e → outcome_text j w e r ≡ event_text j w e
 unfolding event_text
 other-text j w e r is = ap (outcome_text j w e) is
@@ -220,7 +220,7 @@ one-event : (j : Job) (w : World) (e : Event) (more : List Event) → events_tex
 unfolding events_text
 one-event j w e more = refl
 
--- one event more was told
+-- the text of one event more was written
 pub event-told : {W : Type 0} (contents : W → Option (List ℕ)) (failed : W → ℕ) (a b c : W) (j : Job) (w : World) (es : List Event) (i : ℕ) (d : Event) → i < length es →
     TextWritten contents failed a b (events_text j w (take i es)) → TextWritten contents failed b c (event_text j (run_of j w (take i es)) (get_or es i d)) →
     TextWritten contents failed a c (events_text j w (take (i + 1) es))
@@ -242,7 +242,7 @@ event-shown j w es i d lt =
     let next : i + 1 ≡ suc i = omega arith in
     sym (ap (λ n. run_of j w (take n es)) next ∙ ap (run_of j w) (take-suc es i d lt) ∙ run-more j w (take i es) (get_or es i d))
 
--- an event that was not told to its end
+-- the text of an event was not written to its end
 pub event-stopped : {W : Type 0} (contents : W → Option (List ℕ)) (failed : W → ℕ) (a b c : W) (j : Job) (w : World) (es : List Event) (i : ℕ) (d : Event) (f : TellError) → i < length es →
     TextWritten contents failed a b (events_text j w (take i es)) → Stopped contents failed b c (event_text j (run_of j w (take i es)) (get_or es i d)) f →
     Stopped contents failed a c (events_text j w es) f

@@ -90,7 +90,7 @@ pub record Shows (j : Job) (w : World) (v : SeenWorld) : Type 0 where
   pub copies : (c : ℕ) → Agree (Has j) (slice_get w.copies c) (slice_get v.copies c)
   pub count : length v.copies ≡ length w.copies
 
--- so many nodes, each of which shows the start of partition p
+-- `replicas` nodes, each of which shows the start of partition p
 pub record AreStart (j : Job) (p replicas : ℕ) (nodes : List SeenNode) : Type 0 where
   pub count : length nodes ≡ replicas
   pub each : (k : ℕ) → IfSome (slice_get nodes k) (ShowsNode j (start_node j.plan p))

@@ -1,6 +1,6 @@
 //! A reader of bytes in memory none of whose calls fails.
 //!
-//! A `MemReader` that was told to fail at no call fails at none either. But that is known of the value, and no more once
+//! A `MemReader` that is made to fail at no call fails at none either. But that is known of the value, and is lost once
 //! `csv` has taken it; of this reader the type says so.
 
 ghost use Rattle.std.specs.Prelude.{◌≡◌, IsOk, None, Some};

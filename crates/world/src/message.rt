@@ -56,7 +56,7 @@ impl Message {
     }
 }
 
-// The want of memory for which a batch that was spelled is not read: nothing else refuses it.
+// A batch that was spelled is refused for want of memory alone.
 fn want_of(error: BatchError) -> AllocError
     requires { error ≡ BatchError.Memory }
 {

@@ -62,7 +62,6 @@ impl Node {
         })
     }
 
-    /// The replica.
     pub(crate) fn replica(&self) -> &Replica
         ensures { result.now ≡ self.now.replica }
     {
@@ -102,7 +101,7 @@ impl Node {
         })
     }
 
-    /// Goes back to what the node kept, or to the start. The error is that memory was refused, and changes nothing: the
+    /// Returns to what the node kept, or to the start. The error is that memory was refused, and changes nothing: the
     /// old replica is dropped only once the new one is made.
     pub(crate) fn restart(&mut self, alloc: Global) -> Result<Answer, AllocError>
         ensures turned { (j : Job) →
@@ -164,7 +163,7 @@ impl Node {
     }
 }
 
-// Does nothing. Its contract says that what a replica has can be kept, for proofs.
+// Does nothing: its contract says that what a replica has can be kept.
 fn keepable(replica: &Replica)
     ensures { IsKeepable replica.now }
 {
@@ -212,7 +211,7 @@ fn read_back(alloc: Global, part: Arc<Part>, bytes: &[u8]) -> Result<Replica, Al
     }
 }
 
-// The want of memory for which a checkpoint that was written in memory is not read: nothing else refuses it.
+// A checkpoint that was written in memory is refused for want of memory alone.
 fn want_of(error: KeepError) -> AllocError
     requires { error ≡ KeepError.Memory }
 {

@@ -220,7 +220,8 @@ impl<'a, V: Watch> WatchedReplay<'a, V> {
         tell_outcome(outcome, line, writer)
     }
 
-    // Events happen one after the other, and the answer of each is written. A watch is called when a node goes on.
+    // Events happen one after the other, and the answer of each is written. The watch is called for each superstep that is
+    // closed.
     fn tell_events<W: CountedWrite>(
         &self,
         world: &mut World,

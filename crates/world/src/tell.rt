@@ -145,14 +145,12 @@ pub(crate) fn tell_node<W: CountedWrite>(
     }
 }
 
-// Whether memory was refused.
 pub(crate) fn is_want(outcome: Result<Answer, WorldError>) -> bool
     ensures { result ≡ is_want outcome }
 {
     matches!(outcome, Err(WorldError::Memory))
 }
 
-// Whether a node was looked at.
 pub(crate) fn is_shown(outcome: Result<Answer, WorldError>) -> bool
     ensures { result ≡ is_shown outcome }
 {
@@ -184,7 +182,6 @@ pub(crate) fn tell_outcome<W: CountedWrite>(
     write_lines(writer, line)
 }
 
-// The node of an event.
 pub(crate) fn node_of(event: Event) -> NodeId
     ensures { result ≡ node_of event }
 {
@@ -200,7 +197,7 @@ pub(crate) fn node_of(event: Event) -> NodeId
     }
 }
 
-// A watch is called if the node of an event went on.
+// Calls the watch if the event closed a superstep.
 pub(crate) fn show_close<V: Watch>(
     world: &World,
     event: Event,

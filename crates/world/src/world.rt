@@ -80,7 +80,7 @@ impl World {
         }
     }
 
-    /// What happens is done, and answered.
+    /// Does what an event says, and answers it.
     ///
     /// In this order it is refused: [`NoNode`](WorldError::NoNode) if there is no such node,
     /// [`NoTarget`](WorldError::NoTarget) if a target is no partition or the node's own,
@@ -102,7 +102,7 @@ impl World {
         self.happen(alloc, event)
     }
 
-    // What happens is done, and answered.
+    // Does what an event says, and answers it.
     fn happen(&mut self, alloc: Global, event: Event) -> Result<Answer, WorldError>
         ensures { (j : Job) → Applies j event result self.old self.new }
     {
@@ -194,7 +194,7 @@ impl World {
         Ok(node.keep(alloc)?)
     }
 
-    // A node goes back to what it kept.
+    // A node returns to what it kept, or to the start.
     fn restart(&mut self, alloc: Global, id: NodeId) -> Result<Answer, WorldError>
         ensures { (j : Job) → Applies j (event.Restart id) result self.old self.new }
     {

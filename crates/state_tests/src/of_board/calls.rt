@@ -50,8 +50,8 @@ fn are_answered<R: Wait>(rt: &R, user: &mut User<'_>, steps: &[Step]) -> bool
     all
 }
 
-/// Whether one who is split off is answered so without so many of the steps, whatever memory is refused, and the first
-/// one knows once they are joined. Of the calls two find nothing.
+/// Whether one who is split off is answered so without the first `without` steps, whatever memory is refused, and the
+/// first one knows once they are joined. Of the calls two find nothing.
 fn goes_on_after_refusals<R: Wait>(rt: &R, user: &mut User<'_>, without: usize) -> bool
     requires { SHARE ≤ user.old.1 }
 {
@@ -92,7 +92,7 @@ fn board_of_three_thousand_entries(rt: HostRuntime) -> Result<(), Fail> {
     Ok(())
 }
 
-/// What a call about a batch is answered after so many others, if so many entries were free before them all, and as
+/// What a call about a batch is answered after `behind` others, if `free` entries were free before them all, and as
 /// many batches were posted, or four.
 fn wanted(step: Step, at: usize, behind: usize, free: usize) -> Result<bool, BoardError> {
     match step {
@@ -102,7 +102,7 @@ fn wanted(step: Step, at: usize, behind: usize, free: usize) -> Result<bool, Boa
     }
 }
 
-/// Whether four calls after so many others are answered so.
+/// Whether four calls after `behind` others are answered so.
 fn fills<R: Wait>(rt: &R, user: &mut User<'_>, step: Step, behind: usize, free: usize) -> bool
     requires { behind ≤ 100 }
     ensures { user.new ≡ user.old }
@@ -114,7 +114,7 @@ fn fills<R: Wait>(rt: &R, user: &mut User<'_>, step: Step, behind: usize, free: 
     right
 }
 
-/// Whether a board with so many free entries answers two up to them, and then no more: each posts four batches, then
+/// Whether a board with `free` free entries answers two up to them, and then no more: each posts four batches, then
 /// each fetches them, and the second raises a floor. Both know of the length then.
 fn both_fill<R: Wait>(rt: &R, first: &mut User<'_>, second: &mut User<'_>, free: usize) -> bool {
     let new = fills(rt, first, Step::Post(Posted::New), 0, free);
@@ -127,7 +127,7 @@ fn both_fill<R: Wait>(rt: &R, first: &mut User<'_>, second: &mut User<'_>, free:
     new && known && found && again && full && lengths
 }
 
-/// Whether a new board of so many entries fills up so: None if memory was refused.
+/// Whether a new board of `entries` entries fills up so: None if memory was refused.
 fn fills_up<R: AllocGlobal + RandomSource + Wait>(rt: &R, entries: u32) -> Option<bool>
     requires { (LEAST_ENTRIES ≤ entries) × (entries ≤ MOST_ENTRIES) }
 {

@@ -48,7 +48,7 @@ fn work<R: Wait>(rt: &R, user: &mut User<'_>, floor: u32) -> Done {
     }
 }
 
-/// One does so in a thread, and so does each of so many others; this one in the last thread.
+/// One does so, and each of `others` others, in threads: this one in the last.
 fn crowd<R: Threads + Wait + Sync>(rt: &R, mut user: User<'_>, others: u8, floor: u32) -> Done
     requires { (user.1 ≤ 2 ^ 63) × (others * 2 ^ 53 ≤ user.1) }
 {
@@ -67,7 +67,7 @@ fn crowd<R: Threads + Wait + Sync>(rt: &R, mut user: User<'_>, others: u8, floor
     one.and(rest)
 }
 
-/// Whether so many threads and one more at a new board do right: each name and the snapshot is New once, and each call
+/// Whether `others` threads and one more at a new board do right: each name and the snapshot is New once, and each call
 /// that adds an entry is one. None if memory was refused.
 fn is_right_crowd<R>(rt: &R, others: u8, floor: u32) -> Option<bool>
 where

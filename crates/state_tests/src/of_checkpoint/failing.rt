@@ -20,7 +20,7 @@ fn is_cut(rt: &HostRuntime, part: &Arc<Part>, replica: &Replica, room: usize, go
         && fault(rt, part, text) == Some(KeepError::Short)
 }
 
-/// Whether a replica is cut by each of so many calls of a writer that fails, and by none after them.
+/// Whether a replica is cut if one of the first `calls` calls of the writer fails, and not if a later one would.
 fn calls(rt: &HostRuntime, part: &Arc<Part>, replica: &Replica, calls: u64) -> bool {
     let mut all = true;
     for good in 0..8 {
@@ -29,7 +29,7 @@ fn calls(rt: &HostRuntime, part: &Arc<Part>, replica: &Replica, calls: u64) -> b
     all
 }
 
-/// Whether it is by each writer with less room than it takes.
+/// Whether it is cut by each writer with less room than it takes.
 fn rooms(rt: &HostRuntime, part: &Arc<Part>, replica: &Replica, length: usize) -> bool {
     let mut all = true;
     for room in 0..400 {
@@ -38,7 +38,8 @@ fn rooms(rt: &HostRuntime, part: &Arc<Part>, replica: &Replica, length: usize) -
     all
 }
 
-/// Whether all that holds of the replica that is read from these bytes. Its fields go out at once, and then their digest.
+/// Whether all that holds of the replica that is read from these bytes. Its fields are written in one call, and then
+/// their digest.
 pub(super) fn are_cut(rt: &HostRuntime, part: &Arc<Part>, bytes: &[u8]) -> bool {
     match read(rt, part, &mut MemReader::new(bytes, None)) {
         Ok(replica) => {
@@ -55,7 +56,7 @@ pub(super) static VERTICES: &[u8] =
     b"0\n1\n2\n3\n4\n5\n6\n7\n8\n9\nA\nB\nC\nD\nE\nF\nG\nH\nI\nJ\nK\nL\nM\nN\nO\nP\nQ\nR\nS\nT\nU\n\
     V\nW\nX\nY\nZ\na\nb\nc\nd\ne\nf\ng\nh\ni\nj\nk\nl\nm\nn\no\np\nq\nr\ns\nt\nu\nv\nw\nx\ny\nz\n";
 
-/// Whether those go out in three calls.
+/// Whether those are written in three calls.
 pub(super) fn many_are_cut(rt: &HostRuntime, part: &Arc<Part>) -> bool {
     match replica_of(rt, part) {
         Some(replica) => calls(rt, part, &replica, 3),

@@ -14,7 +14,7 @@ use std::io::{ErrorKind, Read};
 use std::sync::Arc;
 use std::{io, mem};
 
-/// A reader that gives at most so many bytes a call, and fails after so many calls.
+/// A reader that gives at most `most` bytes a call, and fails after `good` calls.
 #[derive(Drop)]
 struct Sips<'a> {
     bytes: &'a [u8],
@@ -58,7 +58,7 @@ pub(super) fn fault(rt: &HostRuntime, part: &Arc<Part>, bytes: &[u8]) -> Option<
     read(rt, part, &mut MemReader::new(bytes, None)).err()
 }
 
-/// Why they are by so many bytes a call, of which so many are good.
+/// Why they are refused from a reader of `most` bytes a call that fails after `good` calls.
 fn sipped(
     rt: &HostRuntime,
     part: &Arc<Part>,
@@ -70,7 +70,7 @@ fn sipped(
     read(rt, part, &mut CountingReader::new(sips)).err()
 }
 
-/// Whether the first bytes are read so, as a replica that writes the second ones.
+/// Whether the first bytes are read from such a reader, as a replica that writes the second ones.
 fn is_sipped(
     rt: &HostRuntime,
     part: &Arc<Part>,
@@ -90,8 +90,8 @@ fn is_sipped(
     }
 }
 
-/// Whether so many calls are made by so many bytes, each that fails is answered, and the replica that comes writes the
-/// second bytes.
+/// Whether reading `most` bytes a call takes `calls` calls, a failure of each is answered, and the replica that is read
+/// writes the second bytes.
 fn fails(
     rt: &HostRuntime,
     part: &Arc<Part>,
@@ -124,7 +124,7 @@ pub(super) fn is_written(rt: &HostRuntime, part: &Arc<Part>, first: &[u8], secon
     }
 }
 
-/// Whether all that holds of a checkpoint, which is read by so many calls.
+/// Whether all that holds of a checkpoint, which is read in `calls` calls.
 fn is_read(rt: &HostRuntime, part: &Arc<Part>, first: &[u8], second: &[u8], calls: u64) -> bool {
     is_written(rt, part, first, second)
         && cuts(rt, part, first)

@@ -14,7 +14,7 @@ use std::io;
 use std::io::{ErrorKind, Write};
 use std::sync::Arc;
 
-/// A writer into so much room, which takes at most so many bytes a call, and fails after so many calls.
+/// A writer into some room, which takes at most `most` bytes a call, and fails after `good` calls.
 #[derive(Drop)]
 struct Sips<'a> {
     room: &'a mut [u8],
@@ -52,7 +52,7 @@ pub(super) fn written(
     (answer, length.saturating_sub(sips.room.len()))
 }
 
-/// Whether a replica writes these bytes, as many as its length says, by so many a call.
+/// Whether a replica writes these bytes, `most` a call, and as many as its length says.
 pub(super) fn writes(replica: &Replica, wanted: &[u8], most: usize) -> bool {
     let mut bytes = [0; 400];
     let out = written(replica, &mut bytes, most, u64::MAX);
@@ -68,7 +68,7 @@ fn again(rt: &HostRuntime, part: &Arc<Part>, replica: &Replica) -> Option<Box<Re
     read(rt, part, &mut MemReader::new(text, None)).ok()
 }
 
-/// Whether one is read in the place of another, and goes on.
+/// Whether a replica is replaced by one that is read from its bytes, and closes.
 fn renews(rt: &HostRuntime, part: &Arc<Part>, replica: &mut Box<Replica>) -> bool {
     match again(rt, part, replica) {
         Some(again) => {
@@ -79,7 +79,7 @@ fn renews(rt: &HostRuntime, part: &Arc<Part>, replica: &mut Box<Replica>) -> boo
     }
 }
 
-/// Whether the two edges go on so from superstep 0 to the bytes of superstep 2, and then to the end of the run.
+/// Whether the two edges come so from superstep 0 to the bytes of superstep 2, and then to the end of the run.
 fn runs(rt: &HostRuntime, part: &Arc<Part>, replica: &mut Box<Replica>) -> Option<bool> {
     if !renews(rt, part, replica) || !renews(rt, part, replica) {
         return None;
@@ -108,8 +108,8 @@ fn takes(rt: &HostRuntime, replica: &mut Replica, bytes: &[u8]) -> bool {
     }
 }
 
-/// Whether a replica writes those bytes, once it has taken a batch of superstep 3 and one of superstep 2. Both tell of
-/// one changed vertex and have no row: what no partition tells. None if memory for one is refused.
+/// Whether a replica writes those bytes, once it has taken a batch of superstep 3 and one of superstep 2. Both count
+/// one changed vertex and have no row. None if memory for one is refused.
 fn writes_early(rt: &HostRuntime, replica: &mut Replica) -> Option<bool> {
     let later = takes(rt, replica, &TWO_EARLY[281..335]);
     if later && takes(rt, replica, &TWO_EARLY[219..273]) {
@@ -144,7 +144,7 @@ static TEXTS: [(KeepError, &str); 11] = [
     (KeepError::Trailing, "bytes after the digest"),
 ];
 
-/// Whether an error has that text.
+/// Whether an error prints as that text.
 fn told(rt: &HostRuntime, error: KeepError, wanted: &str) -> bool {
     match format!(in rt.alloc(); "{error}") {
         Ok(text) => text.as_str() == wanted,

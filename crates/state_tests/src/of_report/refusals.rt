@@ -57,7 +57,7 @@ impl Write for Slow {
     }
 }
 
-// The report as it goes to a writer that takes a byte a call.
+// The report as a writer gets it that takes a byte a call.
 fn dripped<H: AllocGlobal + Threads + Sync>(
     rt: &H,
     graph: &Graph,

@@ -1,7 +1,7 @@
 //! Refused memory, a writer that fails, and scripts that are cut.
 //!
-//! A run of the first two tests by `rt try --test --fail-alloc N` refuses any one growth of memory: then a test goes on,
-//! and what could not be tried for want of memory is tried again.
+//! A run of the first two tests by `rt try --test --fail-alloc N` refuses any one growth of memory: then what
+//! could not be tried is tried again.
 
 use super::replays::{COPIED, RESTARTED, THREE_PARTITIONS, Worked, options};
 use super::worlds::world_of;
@@ -48,7 +48,7 @@ fn mark_row(mark: u64, replica: &Replica, x: u32) -> u64 {
     all
 }
 
-// A number that tells states of a replica of at most 5 vertices apart.
+// A number that differs for different states of a replica of at most 5 vertices.
 fn mark_of(replica: &Replica) -> u64 {
     let mut mark = u64::from(replica.superstep());
     for tally in replica.tallies() {
@@ -60,7 +60,7 @@ fn mark_of(replica: &Replica) -> u64 {
     mark_names(mark, replica)
 }
 
-// One that tells states of a world apart, of at most 3 partitions with 2 replicas.
+// One that differs for different states of a world of at most 3 partitions with 2 replicas.
 fn mark_of_world(world: &World) -> u64 {
     let mut mark = 0;
     for place in 0..6u16 {
@@ -264,7 +264,7 @@ fn stops_at(rt: &HostRuntime, worked: &Worked, call: u64) -> bool {
     }
 }
 
-// Whether it stops so at each of so many calls, and there is none after them.
+// Whether it stops so at each of `calls` calls, and there is none after them.
 fn stops_at_each(rt: &HostRuntime, worked: &Worked, calls: u64) -> bool {
     let mut right = true;
     for before in 0..calls {
@@ -282,7 +282,7 @@ fn writers_that_fail_at_a_call(rt: HostRuntime) {
     assert!(rt; stops_at_each(&rt, &TRIED[0], 24));
 }
 
-// Whether a script that is cut after so many bytes has the answers of its lines, or ends in a line that is no command:
+// Whether a script that is cut at `end` has the answers of its lines, or ends in a line that is no command:
 // then nothing is written.
 fn is_cut(rt: &HostRuntime, worked: &Worked, end: usize) -> bool {
     let script = worked.script.get(..end).unwrap_or_default();

@@ -36,7 +36,7 @@ pub(crate) struct Worked {
     pub answers: &'static [u8],
 }
 
-// What a replay tells, and whether these were the bytes that it wrote; the writer has room for `room`.
+// What a replay returns, and whether it wrote these bytes; the writer has room for `room`.
 fn replayed(
     rt: &HostRuntime,
     worked: &Worked,

@@ -37,7 +37,7 @@ fn node(rt: &HostRuntime) -> Option<Node> {
     node_of(rt, &graph, &plan)
 }
 
-/// The bytes of what a replica tells partition 0.
+/// The bytes of the batch that a replica has for partition 0.
 fn told(rt: &HostRuntime, replica: &Replica) -> Option<Vec<u8>> {
     if replica.plan().parts() == 0 || replica.partition() == 0 {
         return None;
@@ -99,7 +99,7 @@ fn comes_back(rt: &HostRuntime, node: &mut Node, early: &[u8]) -> bool {
         && node.close() == Answer::Closed { superstep: 2 }
 }
 
-/// What partition 1 tells of superstep 0, changed.
+/// The batch of partition 1 at superstep 0, changed.
 fn untrue(rt: &HostRuntime, world: &World, superstep: u8) -> Option<Vec<u8>> {
     let mut bytes = told(rt, world.node(B)?)?;
     change(&mut bytes, superstep);
@@ -113,7 +113,7 @@ fn turn(bytes: &mut [u8], place: usize) {
     }
 }
 
-/// Whether what partition 1 tells of superstep 0 is read and not taken if that byte of its digest is another one.
+/// Whether the batch of partition 1 at superstep 0 is read and not taken if that byte of its digest is another one.
 fn is_of_another_job(
     rt: &HostRuntime,
     world: &World,

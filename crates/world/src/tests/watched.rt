@@ -39,8 +39,8 @@ impl Watch for Digits {
     }
 }
 
-// Both nodes of two edges go on to superstep 1, and the second one to superstep 2. A close that does not go on tells
-// nothing.
+// Both nodes of two edges close superstep 0, and the second one superstep 1. After a close that is refused no watch is
+// called.
 const SCRIPT: &[u8] = b"send 0.0 1
 send 1.0 0
 deliver 0 1.0

@@ -7,7 +7,7 @@ use Rattle.checkpoint.specs.Told.{IsOfPlan}
 use Rattle.checkpoint.proofs.RightLemmas.{Stands}
 use Rattle.checkpoint.proofs.saved.add_batches.Given as goal
 
--- so many batches are read
+-- as many batches are read as rounds are done
 abbrev pub invariant-loop : goal.invariant-loop
 invariant-loop l = record {
   count : length l.early.items ≡ l.counter;

@@ -8,7 +8,7 @@ use Rattle.checkpoint.proofs.RightLemmas.{AreFirst}
 use Rattle.checkpoint.proofs.SavedLemmas.{AreZeros}
 use Rattle.checkpoint.proofs.saved.add_vertices.Given as goal
 
--- as many rows as before, of the same width; the bytes so far told of the vertices so far, and the other rows are zeros;
+-- as many rows as before, of the same width; the bytes so far spell the vertices so far, and the other rows are zeros;
 -- there is room
 abbrev pub invariant-loop-i : goal.invariant-loop-i
 invariant-loop-i l = record {

@@ -6,7 +6,7 @@ use Rattle.world.specs.Shows.{Shows}
 use Rattle.ball_model.specs.Streams.{TextWritten}
 use Rattle.world.proofs.replay.WatchedReplay.tell_events.Given as goal
 
--- the first events happened and were told
+-- the first events happened, and their text was written
 abbrev pub invariant-loop-event : goal.invariant-loop-event
 invariant-loop-event g l =
     (j : Job) (w : World) → Shows j w l.initial.world →
