@@ -45,7 +45,7 @@ pub(crate) fn u16_at(bytes: &[u8], at: usize) -> u16
 }
 
 // The big-endian number of four bytes at a place.
-pub(crate) fn u32_at(bytes: &[u8], at: usize) -> u32
+fn u32_at(bytes: &[u8], at: usize) -> u32
     requires { at + 4 ≤ length bytes.now }
     ensures { result ≡ field w32 at bytes.now }
 {

@@ -149,7 +149,7 @@ fn read_early<R: CountedRead>(reader: &mut R, plan: &Plan, text: &mut Text) -> R
 }
 
 // How many bytes follow the fixed fields, up to the number of early batches.
-pub(crate) fn fixed_len(part: &Part, header: &CheckpointHeader) -> usize
+fn fixed_len(part: &Part, header: &CheckpointHeader) -> usize
     requires { header.now.superstep ≤ greatest_limit }
     ensures { result ≡ fixed_length part.now header.now }
 {
