@@ -9,7 +9,7 @@ use Rattle.batches.proofs.Crossing.{batch_send, batch_sync}
 use Rattle.graph.proofs.Crossing.{part_send, part_sync}
 use Rattle.figures.proofs.Crossing.{estimator_send, estimator_sync, tally_send, tally_sync}
 use Rattle.replica.specs.contracts.first.FirstTables as first
-use Rattle.replica.specs.contracts.progress.Progress as progress
+use Rattle.replica.specs.contracts.stage.Stage as stage
 use Rattle.replica.specs.contracts.replica.Replica as replica
 use Rattle.replica.specs.contracts.replica.Snapshot as snapshot
 use Rattle.replica.specs.contracts.relay.tallies.Tallies as tallies
@@ -28,23 +28,23 @@ tables_send = search (rows_send, rows_sync, tallies_send, tallies_sync, sendable
 pub tables_sync : IsSync tables.the_row
 tables_sync = search (rows_send, rows_sync, tallies_send, tallies_sync, sendable, crosses) depth 30 fits 20000
 
-pub progress_send : IsSend progress.the_row
-progress_send = search (part_send, part_sync, rows_send, tables_send, batch_send, batch_sync, sendable, crosses) depth 30 fits 20000
+pub stage_send : IsSend stage.the_row
+stage_send = search (part_send, part_sync, rows_send, tables_send, batch_send, batch_sync, sendable, crosses) depth 30 fits 20000
 
-pub progress_sync : IsSync progress.the_row
-progress_sync = search (part_send, part_sync, rows_sync, tables_sync, batch_send, batch_sync, sendable, crosses) depth 30 fits 20000
+pub stage_sync : IsSync stage.the_row
+stage_sync = search (part_send, part_sync, rows_sync, tables_sync, batch_send, batch_sync, sendable, crosses) depth 30 fits 20000
 
 pub snapshot_send : IsSend snapshot.the_row
-snapshot_send = search (progress_send, sendable, crosses) depth 30 fits 20000
+snapshot_send = search (stage_send, sendable, crosses) depth 30 fits 20000
 
 pub snapshot_sync : IsSync snapshot.the_row
-snapshot_sync = search (progress_sync, sendable, crosses) depth 30 fits 20000
+snapshot_sync = search (stage_sync, sendable, crosses) depth 30 fits 20000
 
 pub replica_send : IsSend replica.the_row
-replica_send = search (progress_send, estimator_send, sendable, crosses) depth 30 fits 20000
+replica_send = search (stage_send, estimator_send, sendable, crosses) depth 30 fits 20000
 
 pub replica_sync : IsSync replica.the_row
-replica_sync = search (progress_sync, estimator_sync, sendable, crosses) depth 30 fits 20000
+replica_sync = search (stage_sync, estimator_sync, sendable, crosses) depth 30 fits 20000
 
 -- threads may share a snapshot
 pub shared_snapshot_send : IsSend (arc.the_row snapshot.the_row Heap.the_row ghosts)

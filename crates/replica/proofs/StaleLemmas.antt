@@ -2,7 +2,7 @@
 use Rattle.std.proofs.Common.{◌≡◌, ℕ, ◌+◌, Bool, true, false, List, length, replicate, refl, ap, sym, ◌∙◌, subst, arith, inl, inr}
 use Rattle.replica.proofs.Names.{None, Option, PartValue, arc_value, cases_lt, BatchValue, Measure, PlanValue, State, Table, early_at}
 use Rattle.registers.proofs.TableLemmas.{same_table}
-use Rattle.replica.specs.declared.progress.Progress.TheInside as progress
+use Rattle.replica.specs.declared.stage.Stage.TheInside as stage
 use Rattle.replica.specs.Ahead.{ComesNearer}
 use Rattle.replica.specs.Change.{Advances}
 use Rattle.replica.specs.Hearing.{HearingValue, HearsEarly, IsQuiet, IsSpare, IsStale, KeepsNone, SaysSame, TakesBack, caught_up}
@@ -70,7 +70,7 @@ none_told v s one q = elim (cases_lt q 1) [
   | inr le ↦ no_source v.part.plan.parts v.early 0 q s.early.table (omega (arith, one, le))
 ]
 
-pub walked_on : (r : progress.Inside) (v : State) (plan : PlanValue) (targets : List (List ℕ)) (m : Measure) (b : TablesValue) (own spare bare : HearingValue) (before weights : List ℕ) (left : List (List (Option BatchValue))) → Goes r v targets m before → plan ≡ (arc_value r.part).plan → plan.parts ≡ 1 →
+pub walked_on : (r : stage.Inside) (v : State) (plan : PlanValue) (targets : List (List ℕ)) (m : Measure) (b : TablesValue) (own spare bare : HearingValue) (before weights : List ℕ) (left : List (List (Option BatchValue))) → Goes r v targets m before → plan ≡ (arc_value r.part).plan → plan.parts ≡ 1 →
     HearsOwn (arc_value r.part) targets r.tables r.hearing own → NextTables m r.superstep r.tables b own (caught_up true b.rows spare) weights → IsStale b.rows b.marks spare → Bare b.rows bare → ComesNearer 1 r.early left →
     Advanced (record r { superstep = r.superstep + 1; tables = b; hearing = bare; spare = spare; early = left }) v targets m weights
 walked_on r v plan targets m b own spare bare before weights left g same one heard step stale is near =

@@ -2,17 +2,17 @@
 use Rattle.std.proofs.Common.{◌≡◌, ℕ, ◌+◌, ◌^◌, ◌<◌, ◌≤◌, ◌++◌, ◌∷◌, List, [], length, refl, ap, ap₂, sym, ◌∙◌, subst, arith, inl}
 use Rattle.replica.proofs.Names.{Option, PartValue, arc_value, sum_by, BatchValue, TallyValue, Measure, PlanValue, measure_of, State, is_heard, Table}
 use Rattle.ball_model.specs.declared.names.Verdict.TheVariants as verdict
-use Rattle.replica.specs.declared.progress.Progress.TheInside as progress
+use Rattle.replica.specs.declared.stage.Stage.TheInside as stage
 use Rattle.replica.specs.Ahead.{IsTable}
 use Rattle.replica.specs.Change.{Advances}
 use Rattle.replica.specs.Hearing.{CanHear, HearingValue, HearsEarly}
 use Rattle.replica.specs.Index.{targets_of}
 use Rattle.replica.specs.Kept.{AreEarly, AreOfPlan}
 use Rattle.replica.specs.Level.{differences, level_verdict, total_of, weights_of}
-use Rattle.replica.specs.Progress.{CanGoOn, ProgressValue}
-use Rattle.replica.specs.Seen.{HasIndex, HoldsTogether, IsProgress, progress_of, state_of}
+use Rattle.replica.specs.Stage.{CanGoOn, StageValue}
+use Rattle.replica.specs.Seen.{HasIndex, HoldsTogether, IsStage, stage_of, state_of}
 use Rattle.replica.specs.Tables.{AreAhead, CanBeStepped, CanGoFurther, CanHearOwn, CanStep, HearsOwn, NextTables, TablesValue}
-use Rattle.replica.proofs.HearingLemmas.Accumulator.{Keeps, NoneSpare, Whole, can_go_on, fields_are, fields_of, going_keeps, kept_progress, none_spare}
+use Rattle.replica.proofs.HearingLemmas.Accumulator.{Keeps, NoneSpare, Whole, can_go_on, fields_are, fields_of, going_keeps, kept_stage, none_spare}
 use Rattle.replica.proofs.ChangeLemmas.Advance.{same_early}
 use Rattle.replica.proofs.HearingLemmas.Hearing.{differ_where, hears_quiet}
 use Rattle.replica.proofs.KeptLemmas.Rise.{rise_counters}
@@ -33,7 +33,7 @@ tables_alike n a b mine other parts is = grind arith
 
 -- ---- what a replica can do
 
-pub can_hear : (r : progress.Inside) (v : State) (plan : PlanValue) (targets : List (List ℕ)) (early : List (List (Option BatchValue))) → IsProgress r → Keeps r v → plan ≡ (arc_value r.part).plan → targets ≡ targets_of (arc_value r.part) → AreOfPlan (arc_value r.part).plan early → CanHear plan targets early r.hearing
+pub can_hear : (r : stage.Inside) (v : State) (plan : PlanValue) (targets : List (List ℕ)) (early : List (List (Option BatchValue))) → IsStage r → Keeps r v → plan ≡ (arc_value r.part).plan → targets ≡ targets_of (arc_value r.part) → AreOfPlan (arc_value r.part).plan early → CanHear plan targets early r.hearing
 can_hear r v plan targets early ok k own index kept = rw own (record {
   ready = ready_at (fields_of r) targets r.hearing k.state index refl refl ok.accumulated_width;
   kept = kept;
@@ -59,38 +59,38 @@ can_be_stepped {m} {t} {a} {h} {own} can =
 -- ---- one superstep more
 
 -- what is known where it goes on
-pub record Goes (r : progress.Inside) (v : State) (targets : List (List ℕ)) (m : Measure) (own : List ℕ) : Type 0 where
+pub record Goes (r : stage.Inside) (v : State) (targets : List (List ℕ)) (m : Measure) (own : List ℕ) : Type 0 where
   pub keeps : Keeps r v
-  pub limits : IsProgress r
+  pub limits : IsStage r
   pub index : targets ≡ targets_of (arc_value r.part)
   pub measure : m ≡ measure_of (arc_value r.part).plan
   pub below : r.superstep < (arc_value r.part).plan.limit
   pub weights : own ≡ weights_of r.tables.rows.rows
   pub room : (arc_value r.part).plan.limit + 1 ≤ r.tables.room
 
-pub goes : (r : progress.Inside) (k : ProgressValue) (targets : List (List ℕ)) (m : Measure) (weights : List ℕ) → IsProgress r → NoneSpare r → HoldsTogether k targets m weights → progress_of r ≡ k → level_verdict k.state ≡ verdict.GoOn → Goes r k.state targets m weights
+pub goes : (r : stage.Inside) (k : StageValue) (targets : List (List ℕ)) (m : Measure) (weights : List ℕ) → IsStage r → NoneSpare r → HoldsTogether k targets m weights → stage_of r ≡ k → level_verdict k.state ≡ verdict.GoOn → Goes r k.state targets m weights
 goes r k targets m weights ok spare can is going = grind (arith, going_keeps)
 
 -- so it does once stale accumulators are taken back
-pub goes_whole : (r : progress.Inside) (k : ProgressValue) (targets : List (List ℕ)) (m : Measure) (weights : List ℕ) → Whole r k.state (CanGoOn k) → HoldsTogether k targets m weights → level_verdict k.state ≡ verdict.GoOn → Goes r k.state targets m weights
+pub goes_whole : (r : stage.Inside) (k : StageValue) (targets : List (List ℕ)) (m : Measure) (weights : List ℕ) → Whole r k.state (CanGoOn k) → HoldsTogether k targets m weights → level_verdict k.state ≡ verdict.GoOn → Goes r k.state targets m weights
 goes_whole r k targets m weights whole can going =
-    let held : HoldsTogether (progress_of r) targets m weights = record {
+    let held : HoldsTogether (stage_of r) targets m weights = record {
       goes_on = whole.goes_on can.goes_on;
       index = subst (λ (u : State). HasIndex u targets) (sym whole.same) can.index;
       measure = can.measure ∙ ap (λ (u : State). measure_of u.part.plan) (sym whole.same);
       weights = can.weights ∙ ap (λ (u : State). weights_of u.rows) (sym whole.same);
     } in
-    subst (λ (u : State). Goes r u targets m weights) whole.same (goes r (progress_of r) targets m weights whole.limits whole.spare held refl (ap level_verdict whole.same ∙ going))
+    subst (λ (u : State). Goes r u targets m weights) whole.same (goes r (stage_of r) targets m weights whole.limits whole.spare held refl (ap level_verdict whole.same ∙ going))
 
-pub can_hear_own : (r : progress.Inside) (v : State) (targets : List (List ℕ)) (m : Measure) (weights : List ℕ) → Goes r v targets m weights → CanHearOwn (arc_value r.part) targets r.tables r.hearing
+pub can_hear_own : (r : stage.Inside) (v : State) (targets : List (List ℕ)) (m : Measure) (weights : List ℕ) → Goes r v targets m weights → CanHearOwn (arc_value r.part) targets r.tables r.hearing
 can_hear_own r v targets m weights g = search (arith, inside_of)
 
-pub can_step : (r : progress.Inside) (v : State) (targets : List (List ℕ)) (m : Measure) (own : HearingValue) (weights : List ℕ) → Goes r v targets m weights → AreAhead (arc_value r.part).plan.log2m r.tables.rows own → CanStep m r.superstep r.tables own weights
+pub can_step : (r : stage.Inside) (v : State) (targets : List (List ℕ)) (m : Measure) (own : HearingValue) (weights : List ℕ) → Goes r v targets m weights → AreAhead (arc_value r.part).plan.log2m r.tables.rows own → CanStep m r.superstep r.tables own weights
 can_step r v targets m own weights g ahead =
     grind (arith, few (fields_of r) g.keeps.state)
 
 -- both at once
-pub can_go_further : (r : progress.Inside) (v : State) (targets : List (List ℕ)) (m : Measure) (weights : List ℕ) → Goes r v targets m weights → CanGoFurther (arc_value r.part) m r.superstep r.tables r.hearing weights
+pub can_go_further : (r : stage.Inside) (v : State) (targets : List (List ℕ)) (m : Measure) (weights : List ℕ) → Goes r v targets m weights → CanGoFurther (arc_value r.part) m r.superstep r.tables r.hearing weights
 can_go_further r v targets m weights g =
     let hear = can_hear_own r v targets m weights g in
     record {
@@ -100,17 +100,17 @@ can_go_further r v targets m weights g =
     }
 
 -- and what it is then
-pub record Advanced (r : progress.Inside) (v : State) (targets : List (List ℕ)) (m : Measure) (weights : List ℕ) : Type 0 where
-  pub limits : IsProgress r
+pub record Advanced (r : stage.Inside) (v : State) (targets : List (List ℕ)) (m : Measure) (weights : List ℕ) : Type 0 where
+  pub limits : IsStage r
   pub advances : Advances v (state_of r)
-  pub goes_on : HoldsTogether (progress_of r) targets m weights
+  pub goes_on : HoldsTogether (stage_of r) targets m weights
 
 -- what is heard by the index of the part is heard by the index
 pub by_index : {part : PartValue} {targets : List (List ℕ)} {a : TablesValue} {h own : HearingValue} → targets ≡ targets_of part → HearsOwn part (targets_of part) a h own → HearsOwn part targets a h own
 by_index {part} {targets} {a} {h} {own} is heard = subst (λ (l : List (List ℕ)). HearsOwn part l a h own) (sym is) heard
 
 -- before the batches of the new superstep are heard
-pub can_hear_next : (r : progress.Inside) (v : State) (plan : PlanValue) (targets : List (List ℕ)) (m : Measure) (b : TablesValue) (own quiet : HearingValue) (before weights : List ℕ) → Goes r v targets m before → plan ≡ (arc_value r.part).plan →
+pub can_hear_next : (r : stage.Inside) (v : State) (plan : PlanValue) (targets : List (List ℕ)) (m : Measure) (b : TablesValue) (own quiet : HearingValue) (before weights : List ℕ) → Goes r v targets m before → plan ≡ (arc_value r.part).plan →
     HearsOwn (arc_value r.part) targets r.tables r.hearing own → NextTables m r.superstep r.tables b own quiet weights → CanHear plan targets r.early quiet
 can_hear_next r v plan targets m b own quiet before weights g same heard step =
     let s = fields_of r in
@@ -119,7 +119,7 @@ can_hear_next r v plan targets m b own quiet before weights g same heard step =
       kept = of_plan s.part.plan s.part.number s.superstep s.early g.keeps.state.early;
     })
 
-pub advanced : (r : progress.Inside) (v : State) (plan : PlanValue) (targets : List (List ℕ)) (m : Measure) (b : TablesValue) (own quiet next : HearingValue) (before weights : List ℕ) (left : List (List (Option BatchValue))) → Goes r v targets m before → plan ≡ (arc_value r.part).plan →
+pub advanced : (r : stage.Inside) (v : State) (plan : PlanValue) (targets : List (List ℕ)) (m : Measure) (b : TablesValue) (own quiet next : HearingValue) (before weights : List ℕ) (left : List (List (Option BatchValue))) → Goes r v targets m before → plan ≡ (arc_value r.part).plan →
     HearsOwn (arc_value r.part) targets r.tables r.hearing own → NextTables m r.superstep r.tables b own quiet weights → HearsEarly plan.log2m targets 0 r.early left quiet next →
     Advanced (record r { superstep = r.superstep + 1; tables = b; hearing = next; early = left }) v targets m weights
 advanced r v plan targets m b own quiet next before weights left g same heard step hears =
@@ -144,7 +144,7 @@ advanced r v plan targets m b own quiet next before weights left g same heard st
     let whole : fields_of after ≡ state_of after = fields_are after made.hears.rise.count in
     let spare : NoneSpare r = none_spare r g.limits k.kept.count in
     record {
-      limits = kept_progress after (state_next s (fields_of after) k.state made g.below) width
+      limits = kept_stage after (state_next s (fields_of after) k.state made g.below) width
           (hears.also.width ∙ ap (λ (t : Table). t.width) step.quiet.accumulated ∙ width)
           (hears.also.touched b.rows.rows step.quiet.kept) spare;
       advances = subst (λ (u : State). Advances u (state_of after)) k.view_is (subst (λ (w : State). Advances s w) whole made);

@@ -16,7 +16,7 @@ pub mod Runs
 pub mod Heard
 pub mod Waiting
 pub mod Saved
-pub mod Progress
+pub mod Stage
 pub mod Pull
 pub mod Walk
 pub mod Relay

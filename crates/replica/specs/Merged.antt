@@ -6,7 +6,7 @@ use Rattle.ball_model.specs.Job.{Job}
 use Rattle.ball_model.specs.Join.{union_of, merge_of}
 use Rattle.ball_model.specs.State.{State, StandsFor, content_of, further}
 use Rattle.replica.specs.Index.{targets_of}
-use Rattle.replica.specs.Progress.{CanGoOn, IsWhole, ProgressValue}
+use Rattle.replica.specs.Stage.{CanGoOn, IsWhole, StageValue}
 use Rattle.replica.specs.Seen.{IsState}
 
 -- the superstep, the rows, the marks, the figures and the sums are those of another replica
@@ -46,14 +46,14 @@ pub record Absorbs (v o w : State) : Type 0 where
       StandsFor j p (max t u) w
 
 -- a replica that has k, and can go on with it, can take over what l knows by the index
-pub record CanTakeIn (k l : ProgressValue) (shared : List (List (Option BatchValue)))
+pub record CanTakeIn (k l : StageValue) (shared : List (List (Option BatchValue)))
     (targets : List (List ℕ)) : Type 0 where
   pub two : CanAbsorb k.state l.state shared
   pub goes_on : CanGoOn k
   pub index : targets ≡ targets_of k.state.part
 
 -- a replica that has k, and keeps an accumulator of each row, can take over what l knows by the index
-pub record CanTakeOver (k l : ProgressValue) (shared : List (List (Option BatchValue)))
+pub record CanTakeOver (k l : StageValue) (shared : List (List (Option BatchValue)))
     (targets : List (List ℕ)) : Type 0 where
   pub two : CanAbsorb k.state l.state shared
   pub whole : IsWhole k
@@ -66,6 +66,6 @@ pub record TakesIn (v o w : State) : Type 0 where
   pub theirs : IsState o
 
 -- new is k once it has taken over what l knows, and keeps an accumulator of each row
-pub record TakesOver (k l new : ProgressValue) : Type 0 where
+pub record TakesOver (k l new : StageValue) : Type 0 where
   pub absorbs : Absorbs k.state l.state new.state
   pub whole : IsWhole new

@@ -13,7 +13,7 @@ use Rattle.ball_model.specs.Table.{Table}
 use Rattle.replica.specs.declared.early.TheConstants.{LEVELS}
 use Rattle.replica.specs.declared.saved.Saved.{Saved}
 use Rattle.replica.specs.Kept.{AreCounters, AreEarly, AllRise, AreSums, AreSources}
-use Rattle.replica.specs.Progress.{CanGoOn, ProgressValue}
+use Rattle.replica.specs.Stage.{CanGoOn, StageValue}
 use Rattle.replica.specs.Seen.{IsState}
 
 -- figures that a run can have
@@ -101,7 +101,7 @@ pub record KeepsInPlace (plan : PlanValue) (p t : ℕ) (batches : List BatchValu
   pub placed : AreEarly plan p t early
 
 -- what a replica of the part has that is made of it: with room, a replica can go on with it
-pub record IsRemade (part : PartValue) (s : Saved) (k : ProgressValue) : Type 0 where
+pub record IsRemade (part : PartValue) (s : Saved) (k : StageValue) : Type 0 where
   pub fields : IsRebuilt part s k.state
   pub keepable : IsKeepable k.state
   pub goes_on : CanGoOn k

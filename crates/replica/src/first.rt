@@ -6,7 +6,7 @@ ghost use Rattle.replica.specs.First.{BeginsAs, BeginsBeside};
 ghost use Rattle.replica.specs.Tables.{AreFirst};
 
 use crate::hearing::Hearing;
-use crate::progress::weights::weigh;
+use crate::stage::weights::weigh;
 use crate::start;
 use crate::tables::Tables;
 use figures::Estimator;

@@ -43,7 +43,7 @@ mod first;
 mod hearing;
 pub mod laws;
 mod level;
-mod progress;
+mod stage;
 mod pull;
 mod relay;
 mod replica;
@@ -60,7 +60,7 @@ mod walk;
 
 pub use early::LEVELS;
 pub use first::FirstTables;
-pub use progress::Progress;
+pub use stage::Stage;
 pub use replica::out::ChangedRows;
 pub use replica::{Replica, Snapshot};
 pub use saved::Saved;

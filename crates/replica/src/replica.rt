@@ -6,7 +6,7 @@ pub mod out;
 mod rebuild;
 
 use crate::targets::Targets;
-use crate::{Progress, Shown};
+use crate::{Stage, Shown};
 use figures::Estimator;
 use std::marker::Model;
 
@@ -17,7 +17,7 @@ use std::marker::Model;
 /// afterwards changes nothing here.
 #[derive(Drop)]
 pub struct Snapshot {
-    pub(crate) progress: Progress,
+    pub(crate) stage: Stage,
 }
 
 impl Model for Snapshot {
@@ -25,14 +25,14 @@ impl Model for Snapshot {
 
     ghost Value = { State };
 
-    ghost view = { λ s. s.progress.state };
+    ghost view = { λ s. s.stage.state };
 }
 
 impl Shown for Snapshot {
     ghost state = { λ v. v };
 
-    fn shown(&self) -> &Progress {
-        &self.progress
+    fn shown(&self) -> &Stage {
+        &self.stage
     }
 }
 
@@ -45,7 +45,7 @@ impl Shown for Snapshot {
 #[derive(Drop)]
 pub struct Replica {
     // what it has at its superstep: what it tells, and what a snapshot copies, with room to go on
-    pub(crate) progress: Progress,
+    pub(crate) stage: Stage,
     targets: Targets,
     // how estimates are made
     estimator: Estimator,
@@ -60,7 +60,7 @@ impl Model for Replica {
 
     ghost use Rattle.replica.specs.Seen.{IsReplica};
 
-    ghost view = { λ r. r.progress.state };
+    ghost view = { λ r. r.stage.state };
 
     ghost invariant = { IsReplica };
 }
@@ -68,7 +68,7 @@ impl Model for Replica {
 impl Shown for Replica {
     ghost state = { λ v. v };
 
-    fn shown(&self) -> &Progress {
-        &self.progress
+    fn shown(&self) -> &Stage {
+        &self.stage
     }
 }

@@ -9,7 +9,7 @@ ghost use Rattle.replica.specs.Saved.{MayBeKept};
 
 use crate::early::LEVELS;
 use crate::level::sum_of_lasts;
-use crate::progress::is_same;
+use crate::stage::is_same;
 use ball_model::Plan;
 use ball_model::plan::{GREATEST_RANK, MOST_PARTS};
 use batches::Batch;

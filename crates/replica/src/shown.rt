@@ -22,7 +22,7 @@ ghost use Rattle.replica.specs.Hearing.{accumulated_by, change_by, heard_by};
 ghost use Rattle.replica.specs.Saved.{IsFigures};
 ghost use Rattle.replica.specs.Seen.{IsState};
 
-use crate::{Progress, level};
+use crate::{Stage, level};
 use ball_model::{BatchName, Plan, Verdict};
 use batches::Batch;
 use figures::Tally;
@@ -34,7 +34,7 @@ pub trait Shown {
     ghost state: { Self → State };
 
     /// What a replica and a snapshot both have.
-    fn shown(&self) -> &Progress
+    fn shown(&self) -> &Stage
         ensures { result.now.state ≡ state self.now };
 
     /// The plan of the job.

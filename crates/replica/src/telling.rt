@@ -4,7 +4,7 @@ ghost use Rattle.std.specs.Prelude.{◌≡◌, ◌+◌, ◌<◌, length, slice_i
 ghost use Rattle.ball_model.specs.Masks.{has_bit};
 ghost use Rattle.replica.specs.Sent.{IsTold, IsToldBefore, next_place, sent_batch};
 
-use crate::Progress;
+use crate::Stage;
 use batches::Batch;
 use std::alloc::{AllocError, Global};
 use std::marker::Model;
@@ -21,7 +21,7 @@ pub struct ToldVertices {
 /// What the partition `target` is sent: those of the vertices that changed that have an edge into it.
 #[derive(Drop)]
 pub struct Telling<'a> {
-    pub progress: &'a Progress,
+    pub stage: &'a Stage,
     // the places of the vertices that changed, ascending
     pub vertices: &'a [u32],
     pub target: u16,
@@ -33,12 +33,12 @@ impl<'a> Model for Telling<'a> {
     ghost Value = { TellingValue };
 
     ghost view = { λ t. record {
-      state = t.progress.now.state;
+      state = t.stage.now.state;
       vertices = t.vertices.now;
       target = t.target;
     } };
 
-    ghost invariant = { λ t. CanTell t.progress.now.state t.vertices.now t.target };
+    ghost invariant = { λ t. CanTell t.stage.now.state t.vertices.now t.target };
 }
 
 impl<'a> Telling<'a> {
@@ -90,7 +90,7 @@ impl<'a> Telling<'a> {
         ensures { OnOk result (IsToldBefore self.now (k + 1)
             told.new.ids.items told.new.places.items told.new.changed) }
     {
-        let s = self.progress;
+        let s = self.stage;
         let is_fed = self.feeds(k);
         let place = told.changed;
         told.changed += 1;
@@ -110,7 +110,7 @@ impl<'a> Telling<'a> {
             sent_batch self.now.state self.now.target (next_place self.now (k + 1))) }
     {
         if self.feeds(k) {
-            let s = self.progress;
+            let s = self.stage;
             let i = self.vertices[k];
             batch.push(s.part.vertex(i), s.tables.rows().row(i as usize))?;
         }
@@ -124,7 +124,7 @@ impl<'a> Telling<'a> {
         ensures { result ≡ has_bit (slice_index_or self.now.state.part.feeds
             (slice_index_or self.now.vertices k 0) 0) self.now.target }
     {
-        let s = self.progress;
+        let s = self.stage;
         (s.part.feeds(self.vertices[k]) >> self.target) % 2 == 1
     }
 }

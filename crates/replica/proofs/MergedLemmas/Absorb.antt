@@ -2,16 +2,16 @@
 use Rattle.std.proofs.Common.{◌≡◌, ℕ, ◌+◌, ◌-◌, ◌^◌, ◌<◌, ◌≤◌, ◌||◌, List, length, refl, ap, ap₂, sym, ◌∙◌, subst, arith, inl, inr}
 use Rattle.replica.proofs.Names.{Option, arc_value, BatchValue, PlanValue, State, early_at, Table}
 use Rattle.registers.specs.Joined.{maximum_of_rows, union_of_flags}
-use Rattle.replica.specs.declared.progress.Progress.TheInside as progress
+use Rattle.replica.specs.declared.stage.Stage.TheInside as stage
 use Rattle.replica.specs.Ahead.{IsTable, either}
 use Rattle.replica.specs.Hearing.{CanHear, Fills, HearingValue, HearsEarly, KeepsAll}
 use Rattle.replica.specs.Index.{targets_of}
 use Rattle.replica.specs.Level.{differences}
 use Rattle.replica.specs.Merged.{Absorbs, CanAbsorb, CanTakeIn, CanTakeOver, TakesIn, TakesOver}
-use Rattle.replica.specs.Progress.{CanGoOn, IsWhole, ProgressValue}
-use Rattle.replica.specs.Seen.{IsProgress, IsState, progress_of, state_of}
+use Rattle.replica.specs.Stage.{CanGoOn, IsWhole, StageValue}
+use Rattle.replica.specs.Seen.{IsStage, IsState, stage_of, state_of}
 use Rattle.replica.specs.Tables.{TablesValue}
-use Rattle.replica.proofs.HearingLemmas.Accumulator.{Keeps, NoneSpare, fields_are, fields_of, kept_progress, none_spare, whole_keeps}
+use Rattle.replica.proofs.HearingLemmas.Accumulator.{Keeps, NoneSpare, fields_are, fields_of, kept_stage, none_spare, whole_keeps}
 use Rattle.replica.proofs.HearingLemmas.Hear.{hears_as, hears_same}
 use Rattle.replica.proofs.HearingLemmas.Hearing.{hears_said}
 use Rattle.replica.proofs.MergedLemmas.Merge.{Gathers, Meets, Raises, Unites, absorbs_further, absorbs_lesser, absorbs_level, gathers_state, raises, touched_from, unites_state}
@@ -20,43 +20,43 @@ use Rattle.replica.proofs.SeenLemmas.State.{ready_beside}
 use Rattle.replica.proofs.TablesLemmas.{can_hear}
 
 -- what is known of the two, and of the batches of the other one
-pub record Merging (r o : progress.Inside) (v u : State) (shared : List (List (Option BatchValue))) : Type 0 where
+pub record Merging (r o : stage.Inside) (v u : State) (shared : List (List (Option BatchValue))) : Type 0 where
   pub keeps : Keeps r v
-  pub limits : IsProgress r
-  pub others : IsProgress o
+  pub limits : IsStage r
+  pub others : IsStage o
   pub other_is : state_of o ≡ u
   pub meets : Meets (fields_of r) (state_of o) shared
   pub room : (arc_value r.part).plan.limit + 1 ≤ r.tables.room
 
-pub merging : (r o : progress.Inside) (k l : ProgressValue) (shared : List (List (Option BatchValue))) → IsProgress r → IsProgress o → progress_of r ≡ k → progress_of o ≡ l → IsWhole k → CanAbsorb k.state l.state shared → Merging r o k.state l.state shared
+pub merging : (r o : stage.Inside) (k l : StageValue) (shared : List (List (Option BatchValue))) → IsStage r → IsStage o → stage_of r ≡ k → stage_of o ≡ l → IsWhole k → CanAbsorb k.state l.state shared → Merging r o k.state l.state shared
 merging r o k l shared ok also is other whole two = grind (arith, whole_keeps)
 
 -- the index is that of its part
-pub own_index : (r o : progress.Inside) (v u : State) (shared : List (List (Option BatchValue))) (targets : List (List ℕ)) → Merging r o v u shared → targets ≡ targets_of v.part → targets ≡ targets_of (arc_value r.part)
+pub own_index : (r o : stage.Inside) (v u : State) (shared : List (List (Option BatchValue))) (targets : List (List ℕ)) → Merging r o v u shared → targets ≡ targets_of v.part → targets ≡ targets_of (arc_value r.part)
 own_index r o v u shared targets m index = index ∙ ap (λ (w : State). targets_of w.part) (sym m.keeps.view_is)
 
 -- the batches of the other one can be heard
-pub hear_from_other : (r o : progress.Inside) (v u : State) (plan : PlanValue) (targets : List (List ℕ)) (shared : List (List (Option BatchValue))) → Merging r o v u shared → plan ≡ (arc_value r.part).plan → targets ≡ targets_of v.part → CanHear plan targets shared r.hearing
+pub hear_from_other : (r o : stage.Inside) (v u : State) (plan : PlanValue) (targets : List (List ℕ)) (shared : List (List (Option BatchValue))) → Merging r o v u shared → plan ≡ (arc_value r.part).plan → targets ≡ targets_of v.part → CanHear plan targets shared r.hearing
 hear_from_other r o v u plan targets shared g own index = grind (arith, can_hear)
 
 -- ---- what it is then
 
-pub record Absorbed (r : progress.Inside) (v u : State) : Type 0 where
-  pub limits : IsProgress r
+pub record Absorbed (r : stage.Inside) (v u : State) : Type 0 where
+  pub limits : IsStage r
   pub absorbs : Absorbs v u (state_of r)
-  pub whole : IsWhole (progress_of r)
+  pub whole : IsWhole (stage_of r)
 
-absorbed : (r : progress.Inside) (s o v u : State) → s ≡ v → o ≡ u → IsState (fields_of r) → r.tables.rows.width ≡ 2 ^ (arc_value r.part).plan.log2m → r.hearing.accumulated.width ≡ 2 ^ (arc_value r.part).plan.log2m → KeepsAll r.tables.rows.rows r.hearing → NoneSpare r → (arc_value r.part).plan.limit + 1 ≤ r.tables.room → Absorbs s o (fields_of r) → Absorbed r v u
+absorbed : (r : stage.Inside) (s o v u : State) → s ≡ v → o ≡ u → IsState (fields_of r) → r.tables.rows.width ≡ 2 ^ (arc_value r.part).plan.log2m → r.hearing.accumulated.width ≡ 2 ^ (arc_value r.part).plan.log2m → KeepsAll r.tables.rows.rows r.hearing → NoneSpare r → (arc_value r.part).plan.limit + 1 ≤ r.tables.room → Absorbs s o (fields_of r) → Absorbed r v u
 absorbed r s o v u is other st width accumulated kept spare room made =
     let whole : fields_of r ≡ state_of r = fields_are r kept.count in
     record {
-      limits = kept_progress r st width accumulated kept spare;
+      limits = kept_stage r st width accumulated kept spare;
       absorbs = subst (λ (w : State). Absorbs v u w) whole (rw (← is, ← other) made);
       whole = record { kept = kept.count; spare = spare.none.0; room = room };
     }
 
 -- it is further
-pub lesser_taken : (r o : progress.Inside) (v u : State) (plan : PlanValue) (targets : List (List ℕ)) (shared left early : List (List (Option BatchValue))) (next : HearingValue) → Merging r o v u shared → o.superstep < r.superstep → plan ≡ (arc_value r.part).plan → targets ≡ targets_of (arc_value r.part) →
+pub lesser_taken : (r o : stage.Inside) (v u : State) (plan : PlanValue) (targets : List (List ℕ)) (shared left early : List (List (Option BatchValue))) (next : HearingValue) → Merging r o v u shared → o.superstep < r.superstep → plan ≡ (arc_value r.part).plan → targets ≡ targets_of (arc_value r.part) →
     HearsEarly plan.log2m targets (r.superstep - o.superstep - 1) shared left r.hearing next →
     ((i q : ℕ) → early_at early i q ≡ either (early_at r.early i q) (early_at left i q)) → ((parts : ℕ) → IsTable parts r.early → IsTable parts early) → Absorbed (record r { hearing = next; early = early }) v u
 lesser_taken r o v u plan targets shared left early next g lt same index hears kept table =
@@ -79,10 +79,10 @@ lesser_taken r o v u plan targets shared left early next g lt same index hears k
     (absorbs_lesser s.part.plan.log2m s l (fields_of after) made refl)
 
 -- the other one is: then its own batches can be heard beside what that one has
-pub can_hear_beside : (r o : progress.Inside) (v u : State) (plan : PlanValue) (targets : List (List ℕ)) (shared : List (List (Option BatchValue))) (taken : HearingValue) → Merging r o v u shared → plan ≡ (arc_value r.part).plan → targets ≡ targets_of v.part → Fills o.tables.rows o.hearing taken → CanHear plan targets r.early taken
+pub can_hear_beside : (r o : stage.Inside) (v u : State) (plan : PlanValue) (targets : List (List ℕ)) (shared : List (List (Option BatchValue))) (taken : HearingValue) → Merging r o v u shared → plan ≡ (arc_value r.part).plan → targets ≡ targets_of v.part → Fills o.tables.rows o.hearing taken → CanHear plan targets r.early taken
 can_hear_beside r o v u plan targets shared taken g same index fills = grind (arith, ready_beside)
 
-pub overtaken : (r o : progress.Inside) (v u : State) (plan : PlanValue) (targets : List (List ℕ)) (shared left early : List (List (Option BatchValue))) (b : TablesValue) (taken next : HearingValue) → Merging r o v u shared → r.superstep < o.superstep → plan ≡ (arc_value r.part).plan → targets ≡ targets_of (arc_value r.part) →
+pub overtaken : (r o : stage.Inside) (v u : State) (plan : PlanValue) (targets : List (List ℕ)) (shared left early : List (List (Option BatchValue))) (b : TablesValue) (taken next : HearingValue) → Merging r o v u shared → r.superstep < o.superstep → plan ≡ (arc_value r.part).plan → targets ≡ targets_of (arc_value r.part) →
     b ≡ record o.tables { room = r.tables.room } → Fills o.tables.rows o.hearing taken → HearsEarly plan.log2m targets (o.superstep - r.superstep - 1) r.early left taken next →
     ((i q : ℕ) → early_at early i q ≡ either (early_at left i q) (early_at shared i q)) → ((parts : ℕ) → IsTable parts left → IsTable parts early) → Absorbed (record r { superstep = o.superstep; tables = b; hearing = next; early = early }) v u
 overtaken r o v u plan targets shared left early b taken next g lt same index is fills hears kept table =
@@ -107,7 +107,7 @@ overtaken r o v u plan targets shared left early b taken next g lt same index is
     (absorbs_further l.part.plan.log2m s l (fields_of after) made refl)
 
 -- neither is
-pub united : (r o : progress.Inside) (v u : State) (shared early : List (List (Option BatchValue))) (theirs : Table) (next : HearingValue) → Merging r o v u shared → r.superstep ≡ o.superstep → theirs.rows ≡ (state_of o).accumulated →
+pub united : (r o : stage.Inside) (v u : State) (shared early : List (List (Option BatchValue))) (theirs : Table) (next : HearingValue) → Merging r o v u shared → r.superstep ≡ o.superstep → theirs.rows ≡ (state_of o).accumulated →
     next ≡ record {
       heard = union_of_flags r.hearing.heard o.hearing.heard;
       change = r.hearing.change || o.hearing.change;
@@ -140,19 +140,19 @@ united r o v u shared early theirs next g level are is kept table =
 
 -- ---- once the accumulators are kept again
 
-pub record TookIn (k l new : ProgressValue) : Type 0 where
+pub record TookIn (k l new : StageValue) : Type 0 where
   pub taken : TakesIn k.state l.state new.state
   pub goes_on : CanGoOn new
 
 -- it can take over then
-pub can_take_over : (k now l : ProgressValue) (shared : List (List (Option BatchValue))) (targets : List (List ℕ)) → now.state ≡ k.state → IsWhole now → CanTakeIn k l shared targets → CanTakeOver now l shared targets
+pub can_take_over : (k now l : StageValue) (shared : List (List (Option BatchValue))) (targets : List (List ℕ)) → now.state ≡ k.state → IsWhole now → CanTakeIn k l shared targets → CanTakeOver now l shared targets
 can_take_over k now l shared targets same whole can = record {
   two = subst (λ (v : State). CanAbsorb v l.state shared) (sym same) can.two;
   whole = whole;
   index = can.index ∙ ap (λ (v : State). targets_of v.part) (sym same);
 }
 
-pub took_in : (k now l new : ProgressValue) → now.state ≡ k.state → IsState now.state → IsState l.state → TakesOver now l new → TookIn k l new
+pub took_in : (k now l new : StageValue) → now.state ≡ k.state → IsState now.state → IsState l.state → TakesOver now l new → TookIn k l new
 took_in k now l new same mine theirs over = record {
   taken = record {
     absorbs = subst (λ (v : State). Absorbs v l.state new.state) same over.absorbs;

@@ -2,14 +2,14 @@
 use Rattle.std.proofs.Common.{◌≡◌, ℕ, ◌+◌, ◌-◌, ◌<◌, ◌≤◌, ◌==◌, ◌&&◌, List, refl, ap, sym, ◌∙◌, subst, arith, if◌then◌else◌}
 use Rattle.replica.proofs.Names.{Option, Some, Ok, arc_value, PlanValue, BatchValue, IsBatch, take_of, State, content_of, early_at, BatchName}
 use Rattle.ball_model.specs.declared.names.Taken.TheVariants as taken
-use Rattle.replica.specs.declared.progress.Progress.TheInside as progress
+use Rattle.replica.specs.declared.stage.Stage.TheInside as stage
 use Rattle.replica.specs.Ahead.{IsTable}
 use Rattle.replica.specs.Change.{Receives}
 use Rattle.replica.specs.Hearing.{HearingValue, HearsAlso, HearsByIndex, KeepsAll, batch_by}
 use Rattle.replica.specs.Index.{targets_of}
-use Rattle.replica.specs.Progress.{CanGoOn, ProgressValue}
-use Rattle.replica.specs.Seen.{HasIndex, IsProgress, progress_of, state_of}
-use Rattle.replica.proofs.HearingLemmas.Accumulator.{Keeps, NoneSpare, Whole, fields_of, fields_are, hearing_keeps, kept_progress, none_spare, state_is}
+use Rattle.replica.specs.Stage.{CanGoOn, StageValue}
+use Rattle.replica.specs.Seen.{HasIndex, IsStage, stage_of, state_of}
+use Rattle.replica.proofs.HearingLemmas.Accumulator.{Keeps, NoneSpare, Whole, fields_of, fields_are, hearing_keeps, kept_stage, none_spare, state_is}
 use Rattle.replica.proofs.HearingLemmas.Hear.{hears_as}
 use Rattle.replica.proofs.LevelLemmas.Level.{number_is}
 use Rattle.replica.proofs.LevelLemmas.Over.{hearing_index, kept_over}
@@ -20,14 +20,14 @@ use Rattle.replica.proofs.KeptLemmas.Take.{IsFresh, fresh, names_heard, names_ke
 -- ---- a batch of the superstep
 
 -- what is known where it is new
-pub record Hearable (r : progress.Inside) (v : State) (b : BatchValue) (targets : List (List ℕ)) : Type 0 where
+pub record Hearable (r : stage.Inside) (v : State) (b : BatchValue) (targets : List (List ℕ)) : Type 0 where
   pub keeps : Keeps r v
   pub now : b.name.superstep ≡ r.superstep
   pub is_fresh : IsFresh (fields_of r) b
   pub index : targets ≡ targets_of (arc_value r.part)
   pub ready : HearsByIndex b.plan.log2m targets r.hearing
 
-pub hearable : (r : progress.Inside) (l : ProgressValue) (b : BatchValue) (targets : List (List ℕ)) (name : BatchName) → IsProgress r → NoneSpare r → CanGoOn l → progress_of r ≡ l → IsBatch b →
+pub hearable : (r : stage.Inside) (l : StageValue) (b : BatchValue) (targets : List (List ℕ)) (name : BatchName) → IsStage r → NoneSpare r → CanGoOn l → stage_of r ≡ l → IsBatch b →
     take_of l.state.part.plan l.state.part.number (content_of l.state) b.plan b.name ≡ Ok taken.New → HasIndex l.state targets → name ≡ b.name → name.superstep ≡ r.superstep → Hearable r l.state b targets
 hearable r l b targets name ok spare can is batch new has named here =
     let now : b.name.superstep ≡ r.superstep = ap (λ (n : BatchName). n.superstep) (sym named) ∙ here in
@@ -38,20 +38,20 @@ hearable r l b targets name ok spare can is batch new has named here =
     grind (arith, ready_at, fields_of)
 
 -- once stale accumulators are taken back
-pub hearable_whole : (r : progress.Inside) (l : ProgressValue) (b : BatchValue) (targets : List (List ℕ)) (name : BatchName) → Whole r l.state (CanGoOn l) → CanGoOn l → IsBatch b →
+pub hearable_whole : (r : stage.Inside) (l : StageValue) (b : BatchValue) (targets : List (List ℕ)) (name : BatchName) → Whole r l.state (CanGoOn l) → CanGoOn l → IsBatch b →
     take_of l.state.part.plan l.state.part.number (content_of l.state) b.plan b.name ≡ Ok taken.New → HasIndex l.state targets → name ≡ b.name → name.superstep ≡ r.superstep → Hearable r l.state b targets
 hearable_whole r l b targets name whole can batch new has named here =
     subst (λ (u : State). Hearable r u b targets) whole.same
-    (hearable r (progress_of r) b targets name whole.limits whole.spare (whole.goes_on can) refl batch
+    (hearable r (stage_of r) b targets name whole.limits whole.spare (whole.goes_on can) refl batch
     (subst (λ (u : State). take_of u.part.plan u.part.number (content_of u) b.plan b.name ≡ Ok taken.New) (sym whole.same) new)
     (subst (λ (u : State). HasIndex u targets) (sym whole.same) has) named here)
 
-pub record Heard (r : progress.Inside) (v : State) (b : BatchValue) : Type 0 where
-  pub limits : IsProgress r
+pub record Heard (r : stage.Inside) (v : State) (b : BatchValue) : Type 0 where
+  pub limits : IsStage r
   pub kept : KeepsAll r.tables.rows.rows r.hearing
   pub receives : Receives b v (state_of r)
 
-pub heard_now : (r : progress.Inside) (v : State) (b : BatchValue) (targets : List (List ℕ)) (after : HearingValue) → IsProgress r → Hearable r v b targets → HearsAlso b.plan.log2m targets (batch_by b.name.source (Some b)) r.hearing after → Heard (record r { hearing = after }) v b
+pub heard_now : (r : stage.Inside) (v : State) (b : BatchValue) (targets : List (List ℕ)) (after : HearingValue) → IsStage r → Hearable r v b targets → HearsAlso b.plan.log2m targets (batch_by b.name.source (Some b)) r.hearing after → Heard (record r { hearing = after }) v b
 heard_now r v b targets after ok h also =
     let s = fields_of r in
     let w = fields_of (record r { hearing = after }) in
@@ -60,7 +60,7 @@ heard_now r v b targets after ok h also =
     let rise = all_on s.part.plan.log2m s.rows s.accumulated after.accumulated.rows st.rows st.accumulated own.rise in
     let kept = also.touched r.tables.rows.rows h.keeps.kept in
     record {
-      limits = kept_progress (record r { hearing = after })
+      limits = kept_stage (record r { hearing = after })
           (grind (arith, sources_heard s w b h.is_fresh st also.hears.count also.hears.sources)) ok.width (also.width ∙ ok.accumulated_width) kept (none_spare r ok h.keeps.kept.count);
       kept = kept;
       receives = subst (λ (u : State). Receives b v u) (fields_are (record r { hearing = after }) rise.count)
@@ -77,21 +77,21 @@ later_than : (t n : ℕ) → t ≤ n → (n ≡ t → ⊥) → t < n
 later_than t n le ne = omega (arith, ne)
 
 -- it has a place
-pub record Placed (r : progress.Inside) (name : BatchName) : Type 0 where
+pub record Placed (r : stage.Inside) (name : BatchName) : Type 0 where
   pub above : r.superstep < name.superstep
   pub near : name.superstep < r.superstep + 4
   pub source : (parts : ℕ) → IsTable parts r.early → name.source < parts
 
-pub placed : (r : progress.Inside) (v : State) (b : BatchValue) (name : BatchName) → IsProgress r → state_of r ≡ v → IsBatch b →
+pub placed : (r : stage.Inside) (v : State) (b : BatchValue) (name : BatchName) → IsStage r → state_of r ≡ v → IsBatch b →
     take_of v.part.plan v.part.number (content_of v) b.plan b.name ≡ Ok taken.New → name ≡ b.name → (name.superstep ≡ r.superstep → ⊥) → Placed r name
 placed r v b name ok is batch new named other = grind (arith, fresh)
 
-pub record Kept (r : progress.Inside) (v : State) (b : BatchValue) : Type 0 where
-  pub limits : IsProgress r
-  pub can : CanGoOn (progress_of r)
+pub record Kept (r : stage.Inside) (v : State) (b : BatchValue) : Type 0 where
+  pub limits : IsStage r
+  pub can : CanGoOn (stage_of r)
   pub receives : Receives b v (state_of r)
 
-pub kept_later : (r : progress.Inside) (v : State) (b : BatchValue) (name : BatchName) (after : List (List (Option BatchValue))) → IsProgress r → CanGoOn (progress_of r) → state_of r ≡ v → IsBatch b →
+pub kept_later : (r : stage.Inside) (v : State) (b : BatchValue) (name : BatchName) (after : List (List (Option BatchValue))) → IsStage r → CanGoOn (stage_of r) → state_of r ≡ v → IsBatch b →
     take_of v.part.plan v.part.number (content_of v) b.plan b.name ≡ Ok taken.New → name ≡ b.name → (name.superstep ≡ r.superstep → ⊥) → ((parts : ℕ) → IsTable parts r.early → IsTable parts after) →
     ((i k : ℕ) → early_at after i k ≡ (if (i == name.superstep - r.superstep - 1) && (k == name.source) then Some b else early_at r.early i k)) → Kept (record r { early = after }) v b
 kept_later r v b name after ok goes is batch new named other table at =

@@ -16,7 +16,7 @@ ghost use Rattle.replica.specs.First.{BeginsAs};
 ghost use Rattle.replica.specs.Index.{targets_of};
 ghost use Rattle.replica.specs.Level.{EndsRun, found_verdict, missing_in};
 ghost use Rattle.replica.specs.Merged.{AreOfOnePart, TakesIn, HoldsOfBoth, ShowsAs, merge_answer};
-ghost use Rattle.replica.specs.Progress.{CanGoOn};
+ghost use Rattle.replica.specs.Stage.{CanGoOn};
 ghost use Rattle.replica.specs.Runs.{HasContent, Takes, Closes, Merges};
 ghost use Rattle.replica.specs.Start.{Starts};
 
@@ -24,11 +24,11 @@ use crate::early::Early;
 use crate::first::FirstTables;
 use crate::hearing::Hearing;
 use crate::level::Team;
-use crate::progress::is_same;
+use crate::stage::is_same;
 use crate::pull::Sizes;
 use crate::shown::Shown;
 use crate::targets::Targets;
-use crate::{Progress, Replica, Snapshot};
+use crate::{Stage, Replica, Snapshot};
 use ball_model::{CloseError, MergeError, TakeError, Taken};
 use batches::Batch;
 use figures::Estimator;
@@ -93,7 +93,7 @@ impl Replica {
         } = first;
         let spare = Hearing::bare(alloc, tables.rows())?;
         Ok(Replica {
-            progress: Progress {
+            stage: Stage {
                 part,
                 superstep: 0,
                 tables,
@@ -110,19 +110,19 @@ impl Replica {
     /// A replica that has this, by the index of its part. Estimates are made as its plan says.
     pub(crate) fn of(
         alloc: Global,
-        progress: Progress,
+        stage: Stage,
         targets: Targets,
         estimator: Estimator,
     ) -> Result<Replica, AllocError>
-        requires goes_on { CanGoOn progress }
-        requires index { targets ≡ targets_of progress.state.part }
-        requires measure { estimator ≡ measure_of progress.state.part.plan }
-        ensures { IfOk result (λ r. r ≡ progress.state) }
+        requires goes_on { CanGoOn stage }
+        requires index { targets ≡ targets_of stage.state.part }
+        requires measure { estimator ≡ measure_of stage.state.part.plan }
+        ensures { IfOk result (λ r. r ≡ stage.state) }
     {
-        let mut weights = Vec::with_capacity(alloc, progress.tables.rows().len())?;
-        progress.weigh_again(&mut weights);
+        let mut weights = Vec::with_capacity(alloc, stage.tables.rows().len())?;
+        stage.weigh_again(&mut weights);
         Ok(Replica {
-            progress,
+            stage,
             targets,
             estimator,
             weights,
@@ -148,11 +148,11 @@ impl Replica {
         ensures step { (j : Job) (p : ℕ) → IsTrueBatch j (arc_value batch) →
             Takes j p (arc_value batch).name result self.old self.new }
     {
-        let answer = self.progress.answer(&batch);
+        let answer = self.stage.answer(&batch);
         match answer {
             Ok(Taken::New) => {
                 batch.limits();
-                self.progress.receive(&self.targets, batch);
+                self.stage.receive(&self.targets, batch);
                 answer
             }
             _ => answer,
@@ -187,7 +187,7 @@ impl Replica {
         // a step of a run
         ensures step { (j : Job) (p : ℕ) → Closes j p result self.old self.new }
     {
-        self.progress
+        self.stage
             .close_level(&self.targets, &self.estimator, &mut self.weights)
     }
 
@@ -219,7 +219,7 @@ impl Replica {
     {
         let sizes = Sizes::usual();
         let team = Team { rt, threads, sizes };
-        self.progress
+        self.stage
             .close_level_by(&team, &self.targets, &self.estimator, &mut self.weights)
     }
 
@@ -229,7 +229,7 @@ impl Replica {
         &mut self,
         team: &Team<'_, R>,
     ) -> Result<u32, CloseError> {
-        self.progress
+        self.stage
             .close_level_by(team, &self.targets, &self.estimator, &mut self.weights)
     }
 
@@ -240,8 +240,8 @@ impl Replica {
     pub fn give_back(&mut self)
         ensures { self.new ≡ self.old }
     {
-        if self.progress.is_over() {
-            self.progress.let_go();
+        if self.stage.is_over() {
+            self.stage.let_go();
             self.targets.clear();
         }
     }
@@ -276,23 +276,23 @@ impl Replica {
         if other.partition() != self.partition() {
             return Err(MergeError::NotMine);
         }
-        let Ok(()) = self.take_over(alloc, &other.progress) else {
+        let Ok(()) = self.take_over(alloc, &other.stage) else {
             return Err(MergeError::Memory);
         };
         Ok(())
     }
 
     /// Takes over what another one of the same plan and partition knows. An error changes nothing.
-    pub(crate) fn take_over(&mut self, alloc: Global, other: &Progress) -> Result<(), AllocError>
+    pub(crate) fn take_over(&mut self, alloc: Global, other: &Stage) -> Result<(), AllocError>
         requires { AreOfOnePart self.old other.now.state }
         ensures taken { OnOk result (TakesIn self.old other.now.state self.new) }
         ensures refused { OnErr result (self.new ≡ self.old) }
     {
         let mut shared = other.early.share(alloc)?;
-        self.targets.renew(alloc, &self.progress.part)?;
-        self.progress
+        self.targets.renew(alloc, &self.stage.part)?;
+        self.stage
             .absorb(alloc, &self.targets, other, &mut shared)?;
-        self.progress.weigh_again(&mut self.weights);
+        self.stage.weigh_again(&mut self.weights);
         Ok(())
     }
 
@@ -307,7 +307,7 @@ impl Replica {
             StandsFor j p t s) }
         ensures unchanged { self.new ≡ self.old }
     {
-        let progress = self.progress.copied(alloc)?;
-        Ok(Snapshot { progress })
+        let stage = self.stage.copied(alloc)?;
+        Ok(Snapshot { stage })
     }
 }

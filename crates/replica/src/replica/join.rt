@@ -29,7 +29,7 @@ impl Join for Replica {
 
     /// Whether the two are of one plan and one partition.
     fn alike(&self, other: &Replica) -> bool {
-        self.progress.is_alike(&other.progress)
+        self.stage.is_alike(&other.stage)
     }
 
     /// Takes over what `other` knows, as [`Replica::merge`] does with a snapshot of it.
@@ -49,7 +49,7 @@ impl Join for Replica {
         ensures stands { (j : Job) (p t u : ℕ) → StandsFor j p t self.old →
             StandsFor j p u other.now → OnOk result (StandsFor j p (max t u) self.new) }
     {
-        self.take_over(alloc, &other.progress)
+        self.take_over(alloc, &other.stage)
     }
 
     ghost commutative = { join_commutes };

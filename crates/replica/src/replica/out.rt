@@ -69,7 +69,7 @@ impl Replica {
         let vertices = self.changed_vertices(alloc)?;
         let mut batch = Batch::start(alloc, self.plan(), name, vertices.len() as u32)?;
         let telling = Telling {
-            progress: &self.progress,
+            stage: &self.stage,
             vertices: &vertices,
             target,
         };
@@ -120,7 +120,7 @@ impl Replica {
             target,
         };
         let telling = Telling {
-            progress: &self.progress,
+            stage: &self.stage,
             vertices: &changed.vertices,
             target,
         };

@@ -12,7 +12,7 @@ use crate::hearing::{self, Hearing};
 use crate::saved::Saved;
 use crate::tables::{self, Tables};
 use crate::targets::Targets;
-use crate::{Progress, Replica, Shown, start};
+use crate::{Stage, Replica, Shown, start};
 use batches::Batch;
 use graph::Part;
 use std::alloc::{AllocError, Global};
@@ -31,15 +31,15 @@ impl Replica {
         ensures same { IfOk result (λ r. (v : State) → IsState v →
             IsRebuilt (arc_value part) saved v → r ≡ v) }
     {
-        let progress = rebuilt(alloc, part, saved)?;
-        let estimator = start::estimator_of(alloc, progress.plan())?;
-        let targets = Targets::of(alloc, &progress.part)?;
-        Replica::of(alloc, progress, targets, estimator)
+        let stage = rebuilt(alloc, part, saved)?;
+        let estimator = start::estimator_of(alloc, stage.plan())?;
+        let targets = Targets::of(alloc, &stage.part)?;
+        Replica::of(alloc, stage, targets, estimator)
     }
 }
 
 // What a replica of the part knows that has all this.
-fn rebuilt(alloc: Global, part: Arc<Part>, saved: Saved) -> Result<Progress, AllocError>
+fn rebuilt(alloc: Global, part: Arc<Part>, saved: Saved) -> Result<Stage, AllocError>
     requires { Fits (arc_value part) saved }
     ensures { IfOk result (λ k. IsRemade (arc_value part) saved k) }
 {
@@ -51,7 +51,7 @@ fn rebuilt(alloc: Global, part: Arc<Part>, saved: Saved) -> Result<Progress, All
     let early = kept(alloc, &part, saved.superstep, &saved.early)?;
     let spare = Hearing::bare(alloc, &saved.rows)?;
     let (heard, change, accumulated) = (saved.heard, saved.heard_change, saved.accumulated);
-    Ok(Progress {
+    Ok(Stage {
         part,
         superstep: saved.superstep,
         tables: Tables::of(saved.rows, saved.marks, saved.tallies, sums),

@@ -10,8 +10,8 @@ use crate::hearing::copy_rows;
 
 /// Copies of rows and of accumulators.
 fn copied_rows(rt: &HostRuntime, snapshot: &Snapshot) -> Option<(Rows, Rows)> {
-    let rows = copy_rows(rt.alloc(), snapshot.progress.tables.rows()).ok()?;
-    match copy_rows(rt.alloc(), snapshot.progress.accumulators()) {
+    let rows = copy_rows(rt.alloc(), snapshot.stage.tables.rows()).ok()?;
+    match copy_rows(rt.alloc(), snapshot.stage.accumulators()) {
         Ok(accumulated) => Some((rows, accumulated)),
         Err(AllocError) => None,
     }
@@ -38,7 +38,7 @@ fn saved_rows(rt: &HostRuntime, snapshot: &Snapshot) -> Option<Box<Saved>> {
 fn fill(rt: &HostRuntime, saved: &mut Saved, from: &Snapshot, early: Option<Batch>) -> Option<()> {
     let early = Arc::new(rt.alloc(), early?).ok()?;
     saved.early.push(early).ok()?;
-    let tables = &from.progress.tables;
+    let tables = &from.stage.tables;
     saved.marks.extend_from_slice(tables.marks()).ok()?;
     saved.tallies.extend_from_slice(tables.tallies()).ok()?;
     saved.sums.extend_from_slice(tables.sums()).ok()
@@ -58,7 +58,7 @@ fn rebuilt(rt: &HostRuntime, part: Arc<Part>, saved: Saved) -> Option<Box<Replic
 fn again_of(rt: &HostRuntime, all: &[Replica], from: &Snapshot) -> Option<Box<Replica>> {
     let mut saved = saved_rows(rt, from)?;
     fill(rt, &mut saved, from, sent(rt, all, 1, 0))?;
-    let part = Arc::try_clone(&from.progress.part).ok()?;
+    let part = Arc::try_clone(&from.stage.part).ok()?;
     rebuilt(rt, part, Box::into_inner(saved))
 }
 

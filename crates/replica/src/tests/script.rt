@@ -156,8 +156,8 @@ fn is_first(world: &World, place: usize, kept: usize) -> bool {
 fn is_small(world: &World, kept: usize) -> bool {
     match world.kept.get(kept) {
         Some(snapshot) => {
-            let progress = &snapshot.progress;
-            progress.hearing.count() == 0 && progress.tables.room() < 4097
+            let stage = &snapshot.stage;
+            stage.hearing.count() == 0 && stage.tables.room() < 4097
         }
         None => false,
     }

@@ -177,7 +177,7 @@ enum Beside {
 /// A new replica of a partition that has taken over a snapshot of another one, if it shows the same.
 fn recalled(alloc: Global, replica: &mut Replica) -> Option<Replica> {
     let snapshot = replica.snapshot(alloc).ok()?;
-    let part = Arc::try_clone(&replica.progress.part).ok()?;
+    let part = Arc::try_clone(&replica.stage.part).ok()?;
     let mut other = Replica::new(alloc, part).ok()?;
     other.merge(alloc, &snapshot).ok()?;
     shows_all(&other, &snapshot).then_some(other)

@@ -6,4 +6,4 @@ use Rattle.replica.proofs.replica.Replica.rebuild.Goals as goal
 
 pub returns-clause-same : goal.returns-clause-same
 returns-clause-same c =
-    IfOk-weaker c.of-2.result _ _ (λ r made v ok is. made ∙ rebuilt_same (arc_value c.args.part) c.args.saved c.in_ok-progress.progress.state v c.in_ok-progress.ensures.keepable.state ok c.in_ok-progress.ensures.fields is) c.of-2.ensures
+    IfOk-weaker c.of-2.result _ _ (λ r made v ok is. made ∙ rebuilt_same (arc_value c.args.part) c.args.saved c.in_ok-stage.stage.state v c.in_ok-stage.ensures.keepable.state ok c.in_ok-stage.ensures.fields is) c.of-2.ensures

@@ -1,6 +1,6 @@
 use Rattle.std.proofs.Common.{◌≡◌, ◌+◌, ◌≤◌, [], map, refl, ap, sym, ◌∙◌, subst, arith}
 use Rattle.replica.proofs.Names.{arc_value, vec_capacity, PartValue, IsPart, PlanValue, measure_of, value_of, length-map}
-use Rattle.replica.specs.declared.progress.Progress.TheInside as progress
+use Rattle.replica.specs.declared.stage.Stage.TheInside as stage
 use Rattle.replica.specs.Hearing.{IsQuiet}
 use Rattle.replica.specs.Saved.{KeepsInPlace}
 use Rattle.replica.specs.Tables.{TablesValue}
@@ -17,7 +17,7 @@ pub of-requires-2 : goal.of-requires-2
 of-requires-2 c = grind (arith, length-differing, c.in_ok-touched.ensures, c.requires.heard.accumulated.count)
 
 -- what is known then
-abbrev after : After-of-2 → progress.Inside
+abbrev after : After-of-2 → stage.Inside
 after c = record { part = c.args.part; superstep = c.args.saved.superstep; tables = c.of.result; hearing = c.of-2.result; spare = c.in_ok-spare.spare; early = c.in_ok-early.early }
 
 is_remade : (c : After-of-2) → Remade (after c) c.args.saved

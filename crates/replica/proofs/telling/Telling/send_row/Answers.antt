@@ -1,7 +1,7 @@
 use Rattle.std.proofs.Common.{◌≡◌, ◌+◌, ◌*◌, [], List, ℕ, ◌&&◌, false, get_or, ap, sym, ◌∙◌, arith}
 use Rattle.replica.proofs.Names.{PartValue, Table}
 use Rattle.ball_model.specs.Masks.{has_bit}
-use Rattle.replica.specs.Progress.{ProgressValue}
+use Rattle.replica.specs.Stage.{StageValue}
 use Rattle.replica.specs.Sent.{TellingValue}
 use Rattle.replica.proofs.SentLemmas.Sent.{sent_above, sent_fits, sent_no, sent_room, sent_yes}
 use Rattle.replica.proofs.SentLemmas.Telling.{Stands, sent_here, sent_next, stands}
@@ -15,13 +15,13 @@ at c = stands _ c.args.self.now c.args.k c.self.view_is c.self.invariant c.requi
 vertex : (c : After-row) → c.vertex.result ≡ get_or c.args.self.now.vertices c.args.k 0 * c.args.self.now.state.part.plan.parts + c.args.self.now.state.part.number
 vertex c =
     c.vertex.ensures.value
-    ∙ ap (λ (a : PartValue). get_or c.self.inside.vertices.now c.args.k 0 * a.plan.parts + a.number) (c.deref.ensures ∙ ap (λ (k : ProgressValue). k.state.part) c.s.view_is)
+    ∙ ap (λ (a : PartValue). get_or c.self.inside.vertices.now c.args.k 0 * a.plan.parts + a.number) (c.deref.ensures ∙ ap (λ (k : StageValue). k.state.part) c.s.view_is)
     ∙ ap (λ (t : TellingValue). get_or t.vertices c.args.k 0 * t.state.part.plan.parts + t.state.part.number) c.self.view_is
 
 row : (c : After-row) → c.row.result.now ≡ get_or c.args.self.now.state.rows (get_or c.args.self.now.vertices c.args.k 0) []
 row c =
     c.row.ensures.value
-    ∙ ap (λ (l : List (List ℕ)). get_or l (get_or c.self.inside.vertices.now c.args.k 0) []) (ap (λ (t : Table). t.rows) c.rows.ensures ∙ ap (λ (k : ProgressValue). k.state.rows) c.s.view_is)
+    ∙ ap (λ (l : List (List ℕ)). get_or l (get_or c.self.inside.vertices.now c.args.k 0) []) (ap (λ (t : Table). t.rows) c.rows.ensures ∙ ap (λ (k : StageValue). k.state.rows) c.s.view_is)
     ∙ ap (λ (t : TellingValue). get_or t.state.rows (get_or t.vertices c.args.k 0) []) c.self.view_is
 
 pub push-requires-clause-row : goal.push-requires-clause-row
