@@ -16,20 +16,20 @@ ghost use Rattle.replica.specs.Tables.{CanHearOwn, HearsOwn};
 ghost use Rattle.replica.specs.Walk.{CanWalk, Walks};
 
 use crate::early::{Early, LEVELS};
-use crate::level;
+use crate::marks::{any_marked, clear_marks, mark_differences};
 use crate::relay::{Relay, Tallies};
 use crate::spread::{Own, spread_batch, spread_own};
 use crate::tables::Tables;
 use crate::targets::Targets;
+use crate::team::Hands;
 use crate::walk::Walk;
 use ball_model::Plan;
 use batches::Batch;
 use graph::Part;
-use registers::{Join, Rows, SourceMask, next_marked, take_over};
+use registers::{Join, Rows, SourceMask, next_marked};
 use std::alloc::{AllocError, Global};
 use std::marker::Model;
 use std::mem;
-use std::thread::Threads;
 
 /// Of which sources a superstep's batches are heard, and what is accumulated for each row.
 #[derive(Drop)]
@@ -133,32 +133,15 @@ impl Hearing {
         *change = false;
     }
 
-    /// Accumulators that are spare are kept here again, each as its row is. It takes no memory, and time in proportion to
-    /// the rows that are marked.
-    pub fn take_back(&mut self, spare: &mut Hearing, tables: &Tables)
-        requires { IsSpare tables.now.rows tables.now.marks self.old spare.old }
+    /// Accumulators that are spare are kept here again, each as its row is. It takes no memory but that of threads, and time
+    /// in proportion to the rows that are marked.
+    pub fn take_back<H: Hands>(&mut self, hands: &H, spare: &mut Hearing, tables: &Tables)
+        requires ready { H.ready hands.now }
+        requires spare { IsSpare tables.now.rows tables.now.marks self.old spare.old }
         ensures { TakesBack tables.now.rows self.old spare.old self.new spare.new }
     {
         if spare.accumulated.len() != 0 {
-            catch_up(&mut spare.accumulated, tables.rows(), tables.marks());
-            self.exchange(spare);
-        }
-    }
-
-    /// Takes them back as [`Hearing::take_back`] does, by 2^depth threads.
-    pub fn take_back_by<R: Threads + Sync>(
-        &mut self,
-        rt: &R,
-        depth: u32,
-        spare: &mut Hearing,
-        tables: &Tables,
-    )
-        requires { IsSpare tables.now.rows tables.now.marks self.old spare.old }
-        ensures { TakesBack tables.now.rows self.old spare.old self.new spare.new }
-    {
-        if spare.accumulated.len() != 0 {
-            let accumulated = &mut spare.accumulated;
-            take_over(rt, depth, accumulated, tables.rows(), tables.marks());
+            hands.take_over(&mut spare.accumulated, tables.rows(), tables.marks());
             self.exchange(spare);
         }
     }
@@ -278,15 +261,16 @@ impl Hearing {
         spread_own(&own, &mut self.accumulated, &mut self.touched);
     }
 
-    /// The own rows that changed are heard as [`Hearing::hear_own`] hears them, by 2^depth threads, and figures become
-    /// those of what is accumulated then, in one walk. The answer is what the sum of the last estimates has gained.
-    pub fn hear_and_step<R: Threads + Sync>(
+    /// The own rows that changed are heard as [`Hearing::hear_own`] hears them, and figures become those of what is
+    /// accumulated then, in one walk. The answer is what the sum of the last estimates has gained.
+    pub fn hear_and_step<H: Hands>(
         &mut self,
-        rt: &R,
+        hands: &H,
         walk: &Walk<'_>,
         tallies: &mut Relay<Tallies>,
         weights: &mut [u64],
     ) -> u128
+        requires ready { H.ready hands.now }
         requires can { CanWalk walk.now.estimator.now walk.now.t walk.now.pull.part.now
             walk.now.pull.rows.now walk.now.pull.marks.now
             (fresh_table walk.now.stale walk.now.pull.rows.now self.old.accumulated)
@@ -301,7 +285,13 @@ impl Hearing {
         ensures heard { self.new.heard ≡ self.old.heard }
         ensures change { self.new.change ≡ self.old.change }
     {
-        tallies.walk(rt, walk, &mut self.accumulated, &mut self.touched, weights)
+        tallies.walk(
+            hands,
+            walk,
+            &mut self.accumulated,
+            &mut self.touched,
+            weights,
+        )
     }
 
     /// Begins the next superstep, once what is accumulated has become the rows: those are marked that this has changed,
@@ -311,7 +301,7 @@ impl Hearing {
         ensures { BeginsSuperstep self.old self.new marks.new }
     {
         marks.copy_from_slice(&self.touched);
-        level::clear_marks(&mut self.touched);
+        clear_marks(&mut self.touched);
         self.heard = SourceMask::empty();
         self.change = false;
     }
@@ -322,7 +312,7 @@ impl Hearing {
         ensures { Fills rows.now other.now self.new }
     {
         self.accumulated.copy_from(other.accumulators(rows));
-        level::mark_differences(rows, &self.accumulated, &mut self.touched);
+        mark_differences(rows, &self.accumulated, &mut self.touched);
         self.heard = other.heard;
         self.change = other.change;
     }
@@ -340,7 +330,7 @@ impl Hearing {
     {
         let _heard = self.heard.join(alloc, &other.heard);
         let _raised = self.accumulated.join(alloc, theirs);
-        level::mark_differences(rows, &self.accumulated, &mut self.touched);
+        mark_differences(rows, &self.accumulated, &mut self.touched);
         self.change |= other.change;
     }
 
@@ -349,7 +339,7 @@ impl Hearing {
         ensures { IfOk result (λ copy. (rows : List (List ℕ)) →
             KeepsAllOrNone rows self.now → SaysSame rows self.now copy) }
     {
-        if level::any_marked(&self.touched) {
+        if any_marked(&self.touched) {
             let accumulated = copy_rows(alloc, &self.accumulated)?;
             let touched = Vec::from_slice(alloc, &self.touched)?;
             return Ok(Hearing {
@@ -373,7 +363,7 @@ impl Hearing {
         ensures { (rows : List (List ℕ)) →
             KeepsAllOrNone rows self.old → SaysSame rows self.old self.new }
     {
-        if !level::any_marked(&self.touched) {
+        if !any_marked(&self.touched) {
             self.accumulated.clear();
             self.touched.clear();
             self.touched.shrink_to_fit();
@@ -406,12 +396,12 @@ pub fn differences(alloc: Global, rows: &Rows, accumulated: &Rows) -> Result<Vec
         differences rows.now.rows accumulated.now.rows (length rows.now.rows)) }
 {
     let mut touched = vec![in alloc; false; rows.len()]?;
-    level::mark_differences(rows, accumulated, &mut touched);
+    mark_differences(rows, accumulated, &mut touched);
     Ok(touched)
 }
 
-// Each marked row becomes that of `ahead`, from which no other one differs.
-fn catch_up(rows: &mut Rows, ahead: &Rows, marks: &[bool])
+/// Each marked row becomes that of `ahead`, from which no other one differs.
+pub(crate) fn catch_up(rows: &mut Rows, ahead: &Rows, marks: &[bool])
     requires { DifferWhere marks.now rows.old ahead.now }
     ensures { rows.new ≡ ahead.now }
 {

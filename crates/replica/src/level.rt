@@ -1,25 +1,14 @@
-//! What a replica does with its marks, and with its figures.
+//! The figures of a superstep, stepped in one thread.
 
-ghost use Rattle.std.specs.Prelude.{◌≡◌, ℕ, ◌≤◌, ◌<◌, false, []};
-ghost use Rattle.std.specs.Prelude.{length, slice_index_or, map, count_by};
-ghost use Rattle.std.specs.List.{sum_by, list_any};
+ghost use Rattle.std.specs.Prelude.{◌≡◌, ◌<◌, [], length, slice_index_or, map};
+ghost use Rattle.std.specs.List.{sum_by};
 ghost use Rattle.figures.specs.Values.{value_of};
-ghost use Rattle.replica.specs.Level.{AreAsMany, differences};
 ghost use Rattle.replica.specs.Tables.{AreStepped, CanBeStepped, CanStepMarked, CanStepRow};
 ghost use Rattle.replica.specs.Tables.{IsStepped, rows_before};
 
-use crate::pull::Sizes;
 use crate::relay::{Behind, Relay};
 use figures::{Estimator, Tally, moved_weight};
 use registers::{Rows, next_marked};
-
-/// Threads that work on a superstep: those of a runtime, how many are asked for, and from which sizes on they work.
-#[derive(Drop)]
-pub struct Team<'a, R> {
-    pub rt: &'a R,
-    pub threads: usize,
-    pub sizes: Sizes,
-}
 
 /// The superstep that is closed, and how estimates are made.
 #[derive(Clone, Copy, Drop)]
@@ -37,25 +26,6 @@ pub struct Step<'a> {
     pub ahead: &'a Rows,
     pub marks: &'a [bool],
     pub depth: u32,
-}
-
-/// Marks the rows that differ.
-pub fn mark_differences(old: &Rows, new: &Rows, marks: &mut [bool])
-    requires { AreAsMany old.now new.now (length marks.old) }
-    ensures { marks.new ≡ differences old.now.rows new.now.rows (length marks.old) }
-{
-    for i in 0..marks.len() {
-        marks[i] = new.row(i) != old.row(i);
-    }
-}
-
-/// No row is marked.
-pub fn clear_marks(marks: &mut [bool])
-    ensures { (i : ℕ) → slice_index_or marks.new i false ≡ false }
-{
-    for i in 0..marks.len() {
-        marks[i] = false;
-    }
 }
 
 /// The figures of the rows ahead; the answer is what the sum of the last estimates has gained. Weights are carried forward,
@@ -145,19 +115,4 @@ pub fn sum_of_lasts(tallies: &[Tally]) -> u128
         sum += u128::from(tally.last);
     }
     sum
-}
-
-/// The number of marks that are set.
-pub fn count_set(marks: &[bool]) -> usize
-    ensures value { result ≡ count_by (λ mark. mark) marks.now }
-    ensures within { result ≤ length marks.now }
-{
-    marks.iter().filter(|mark| **mark).count()
-}
-
-/// Whether some mark is set.
-pub fn any_marked(marks: &[bool]) -> bool
-    ensures { result ≡ list_any (λ mark. mark) marks.now }
-{
-    next_marked(marks, 0) < marks.len()
 }

@@ -43,28 +43,30 @@ mod first;
 mod hearing;
 pub mod laws;
 mod level;
-mod stage;
+mod marks;
 mod pull;
 mod relay;
 mod replica;
 pub mod saved;
 mod shown;
 mod spread;
+mod stage;
 mod start;
 mod stepping;
 mod tables;
 mod targets;
+mod team;
 mod telling;
 mod waiting;
 mod walk;
 
 pub use early::LEVELS;
 pub use first::FirstTables;
-pub use stage::Stage;
 pub use replica::out::ChangedRows;
 pub use replica::{Replica, Snapshot};
 pub use saved::Saved;
 pub use shown::Shown;
+pub use stage::Stage;
 pub use targets::Targets;
 
 #[cfg(test)]

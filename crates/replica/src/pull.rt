@@ -7,58 +7,12 @@ ghost use Rattle.std.specs.Prelude.{◌≡◌, ◌≢◌, ◌+◌, ◌*◌, ◌/
 ghost use Rattle.registers.specs.Shape.{piece_at};
 ghost use Rattle.replica.specs.Pull.{CanPullRow, CanRaiseBy, PullsPiece, PullsRow, RaisesBy};
 ghost use Rattle.replica.specs.Pull.{is_told, raised_over, rows_at};
-ghost use Rattle.replica.specs.declared.pull.TheConstants.{MOST_HALVINGS};
 
-use crate::level::{Team, count_set};
 use graph::Part;
 use registers::{LINE, Rows, glance_over, max_into, raise_by_eight};
-use std::thread::{Threads, available_parallelism};
-
-// Below so many bytes of registers that changed, and below as many rows as are many, threads cost more than they save.
-const FEW: usize = 1 << 23;
-
-// From so many bytes of rows on threads have blocks to choose from.
-const MANY: usize = 1 << 24;
-
-// What is beside the registers of a row counts as so many bytes more.
-const BESIDE: usize = 64;
-
-// What an edge costs, in instructions: to decode it; to raise a row by another one, and three quarters of one for each
-// register.
-const DECODE: usize = 45;
-
-const RAISE: usize = 20;
-
-// Into how many blocks many rows are cut for each processor, as a power of 2, if all are to work.
-const BLOCKS: u32 = 2;
-
-// More threads than these are not counted, and there are no more blocks, of which each has a thread.
-const MOST_THREADS: usize = 1024;
-
-// How often rows are halved for so many.
-const MOST_HALVINGS: u32 = 10;
 
 // How many rows raise another one at once. Fewer are glanced at before the first of them does.
 const AHEAD: usize = 8;
-
-/// From which sizes on threads work on rows.
-#[derive(Clone, Copy, Drop)]
-pub struct Sizes {
-    /// Below so many bytes of registers that changed, and below as many rows as are many, no thread is started.
-    pub few: usize,
-    /// From so many bytes of rows on there are more blocks than threads.
-    pub many: usize,
-}
-
-impl Sizes {
-    /// Those from which on threads save more than they cost.
-    pub fn usual() -> Sizes {
-        Sizes {
-            few: FEW,
-            many: MANY,
-        }
-    }
-}
 
 // The place of vertex `z` in its partition, and the number of this. A division takes longer than the branch.
 #[inline(always)]
@@ -183,62 +137,4 @@ pub fn middle(part: &Part, from: usize, count: usize) -> usize
 {
     part.limits();
     part.middle(from as u32, (from + count) as u32) as usize - from
-}
-
-/// How often rows are halved for a team, of whose threads at most 1,024 count: into no more blocks than threads, or, if
-/// all processors are to work on many rows, into four times as many, up to 1,024, since blocks take unequal times.
-pub fn halvings<R: Threads>(team: &Team<'_, R>, width: usize, marks: &[bool]) -> u32
-    requires { width < 2 ^ 16 }
-    ensures { result ≤ MOST_HALVINGS }
-{
-    let whole = usize::BITS - (team.threads.min(MOST_THREADS) / 2).leading_zeros();
-    let halved = match available_parallelism(team.rt) {
-        Ok(processors) if team.threads < processors.get() => whole,
-        _ if are_marked(marks, many_rows(team.sizes, width)) => whole + BLOCKS,
-        _ => whole,
-    };
-    halved.min(MOST_HALVINGS)
-}
-
-// Whether at least so many rows are marked.
-fn are_marked(marks: &[bool], count: usize) -> bool {
-    count <= count_set(marks)
-}
-
-// How many rows of so many registers are many.
-fn many_rows(sizes: Sizes, width: usize) -> usize
-    requires { width < 2 ^ 16 }
-{
-    sizes.many / (width + BESIDE)
-}
-
-// How many rows of so many registers are worth threads.
-fn least_rows(sizes: Sizes, width: usize) -> usize
-    requires { width < 2 ^ 16 }
-{
-    many_rows(sizes, width).min(sizes.few / width.max(1))
-}
-
-/// Whether so many rows are marked that a team takes less time to pull all rows than one thread to spread those: then
-/// each edge to an own vertex has to be decoded, of which about one in so many partitions is from an own one, and the rows
-/// are raised by all threads.
-pub fn are_many<R: Threads>(team: &Team<'_, R>, parts: u16, width: usize, marks: &[bool]) -> bool
-    requires { width < 2 ^ 16 }
-{
-    let decode = DECODE * usize::from(parts.max(1));
-    let gain = (team.threads.max(1) - 1).min(63) * (RAISE + width / 4 * 3) / decode;
-    0 < gain && are_marked(marks, least_rows(team.sizes, width).max(marks.len() / gain))
-}
-
-/// How often rows of so many registers are halved for a team; 0 if so few are marked that threads cost more than they
-/// save.
-pub fn halvings_for<R: Threads>(team: &Team<'_, R>, width: usize, marks: &[bool]) -> u32
-    requires { width < 2 ^ 16 }
-    ensures { result ≤ MOST_HALVINGS }
-{
-    if 1 < team.threads && are_marked(marks, least_rows(team.sizes, width)) {
-        halvings(team, width, marks)
-    } else {
-        0
-    }
 }

@@ -6,7 +6,7 @@ pub mod out;
 mod rebuild;
 
 use crate::targets::Targets;
-use crate::{Stage, Shown};
+use crate::{Shown, Stage};
 use figures::Estimator;
 use std::marker::Model;
 

@@ -22,7 +22,8 @@ ghost use Rattle.replica.specs.Hearing.{accumulated_by, change_by, heard_by};
 ghost use Rattle.replica.specs.Saved.{IsFigures};
 ghost use Rattle.replica.specs.Seen.{IsState};
 
-use crate::{Stage, level};
+use crate::Stage;
+use crate::marks::count_set;
 use ball_model::{BatchName, Plan, Verdict};
 use batches::Batch;
 use figures::Tally;
@@ -151,7 +152,7 @@ pub trait Shown {
             result ≡ changed_count j t p }
     {
         let s = self.shown();
-        level::count_set(s.tables.marks()) as u32
+        count_set(s.tables.marks()) as u32
     }
 
     /// The sum of the estimates of the partition at each superstep so far, from 0 on.

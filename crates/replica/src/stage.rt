@@ -6,7 +6,7 @@ ghost use Rattle.ball_model.specs.Content.{same_plan};
 mod merge;
 mod read;
 mod step;
-mod step_by;
+mod walk;
 pub(crate) mod weights;
 
 use crate::Shown;

@@ -10,17 +10,17 @@ ghost use Rattle.replica.specs.Tables.{CanGoFurther, GoFurther};
 ghost use Rattle.replica.specs.Tables.{AreFirst, AreRefilled, CanStep, HasRoomFor, NextTables};
 
 use crate::hearing::Hearing;
-use crate::level::{Closing, Step, Team};
-use crate::pull::{Pull, are_many, halvings, halvings_for};
+use crate::level::{Closing, Step, sum_of_lasts};
+use crate::pull::Pull;
 use crate::relay::{Relay, Tallies};
+use crate::start;
+use crate::team::Hands;
 use crate::walk::Walk;
-use crate::{level, start};
 use figures::{Estimator, Tally};
 use graph::Part;
 use registers::Rows;
 use std::alloc::{AllocError, Global};
 use std::marker::Model;
-use std::thread::Threads;
 
 /// The rows of a superstep, which of them changed there, their figures, and the sums of their estimates at each
 /// superstep so far.
@@ -56,7 +56,7 @@ impl Tables {
         let rows = start::start_rows(alloc, part)?;
         let tallies = start::start_tallies(alloc, estimator, &rows)?;
         let mut sums = Vec::with_capacity(alloc, part.plan().limit() as usize + 1)?;
-        sums.push_reserved(level::sum_of_lasts(&tallies));
+        sums.push_reserved(sum_of_lasts(&tallies));
         Ok(Tables::of(rows, marks, tallies, sums))
     }
 
@@ -122,35 +122,15 @@ impl Tables {
 
     /// Goes on from the superstep that is closed: what is accumulated of it becomes the rows, the figures and the sums
     /// follow, and nothing is heard yet. Weights are carried forward.
-    pub fn next(&mut self, closing: &Closing<'_>, hearing: &mut Hearing, weights: &mut [u64])
-        requires { CanStep closing.now.estimator.now closing.now.t self.old hearing.old
-            weights.old }
-        ensures { NextTables closing.now.estimator.now closing.now.t self.old self.new
-            hearing.old hearing.new weights.new }
-    {
-        let last = self.sums[closing.t as usize];
-        let (ahead, marks) = (hearing.ahead(), hearing.touched());
-        let step = Step {
-            estimator: closing.estimator,
-            t: closing.t + 1,
-            ahead,
-            marks,
-            depth: 0,
-        };
-        let gain = self.tallies.step(&step, &mut self.rows, weights);
-        self.sums.push_reserved(last + gain);
-        hearing.begin(&mut self.marks);
-    }
-
-    /// Goes on as [`Tables::next`] does, by a team if it is worth it.
-    pub fn next_by<R: Threads + Sync>(
+    pub fn next<H: Hands>(
         &mut self,
-        team: &Team<'_, R>,
+        hands: &H,
         closing: &Closing<'_>,
         hearing: &mut Hearing,
         weights: &mut [u64],
     )
-        requires { CanStep closing.now.estimator.now closing.now.t self.old hearing.old
+        requires ready { H.ready hands.now }
+        requires can { CanStep closing.now.estimator.now closing.now.t self.old hearing.old
             weights.old }
         ensures { NextTables closing.now.estimator.now closing.now.t self.old self.new
             hearing.old hearing.new weights.new }
@@ -162,33 +142,32 @@ impl Tables {
             t: closing.t + 1,
             ahead,
             marks,
-            depth: halvings_for(team, ahead.width(), marks),
+            depth: hands.halvings(ahead.width(), marks),
         };
-        let gain = self
-            .tallies
-            .step_by(team.rt, &step, &mut self.rows, weights);
+        let gain = self.tallies.step(hands, &step, &mut self.rows, weights);
         let sum = last + gain;
         self.sums.push_reserved(sum);
         hearing.begin(&mut self.marks);
     }
 
-    /// Whether so many rows changed that a team takes less time to walk over all of them.
-    pub fn are_walked<R: Threads>(&self, team: &Team<'_, R>, part: &Part) -> bool {
-        are_many(team, part.plan().parts(), self.rows().width(), self.marks())
+    /// Whether so many rows changed that it takes less time to walk over all of them.
+    pub fn are_walked<H: Hands>(&self, hands: &H, part: &Part) -> bool {
+        hands.are_many(part.plan().parts(), self.rows().width(), self.marks())
     }
 
     /// Hears what changed in the own partition and goes on, as [`Hearing::hear_own`] and [`Tables::next`] do one after the
-    /// other, in one walk by a team: accumulators, which may be stale, are pulled, and figures follow. Then these are the
+    /// other, in one walk: accumulators, which may be stale, are pulled, and figures follow. Then these are the
     /// rows, and what the rows were is kept in their place, stale.
-    pub fn walk<'a, R: Threads + Sync>(
+    pub fn walk<'a, H: Hands>(
         &mut self,
-        team: &Team<'_, R>,
+        hands: &H,
         part: &'a Part,
         closing: &Closing<'a>,
         stale: bool,
         hearing: &mut Hearing,
         weights: &mut [u64],
     )
+        requires ready { H.ready hands.now }
         requires can { CanGoFurther part.now closing.now.estimator.now closing.now.t self.old
             (caught_up stale self.old.rows hearing.old) weights.old }
         requires stale { IsTrue stale →
@@ -204,7 +183,7 @@ impl Tables {
             part,
             rows,
             marks: &self.marks,
-            depth: halvings(team, rows.width(), &self.marks),
+            depth: hands.halvings(rows.width(), &self.marks),
         };
         let walk = Walk {
             pull,
@@ -212,7 +191,7 @@ impl Tables {
             t: closing.t + 1,
             stale,
         };
-        let gain = hearing.hear_and_step(team.rt, &walk, &mut self.tallies, weights);
+        let gain = hearing.hear_and_step(hands, &walk, &mut self.tallies, weights);
         let total = last + gain;
         self.sums.push_reserved(total);
         hearing.change_places(&mut self.rows, &mut self.marks);

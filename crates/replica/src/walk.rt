@@ -14,6 +14,7 @@ ghost use Rattle.replica.specs.Walk.{IsPieceOf, fresh_row, piece_ahead};
 
 use crate::level::step_tally;
 use crate::pull::{Pull, middle, pull_piece};
+use crate::team::Hands;
 use figures::{Estimator, Tally};
 use registers::Rows;
 use std::thread::{Threads, join_mut};
@@ -105,8 +106,8 @@ fn walk_row(
     step_tally(walk.estimator, walk.t, row, ahead, weight, tally)
 }
 
-// The rows from own vertex `from` on, one after the other; the answer is what the sum of the last estimates has gained.
-fn walk_block(
+/// The rows from own vertex `from` on, one after the other; the answer is what the sum of the last estimates has gained.
+pub fn walk_block(
     walk: &Walk<'_>,
     from: usize,
     cells: &mut [u8],
@@ -129,9 +130,9 @@ fn walk_block(
     gain
 }
 
-// Does what `walk_block` does, by halves of halves, each in a thread of its own if one can be made.
+/// Does what `walk_block` does, by halves of halves, each in a thread of its own if one can be made.
 #[cycle(halves)]
-fn walk_halves<R: Threads + Sync>(
+pub fn walk_halves<R: Threads + Sync>(
     rt: &R,
     walk: &Walk<'_>,
     from: usize,
@@ -215,20 +216,21 @@ fn walk_both<R: Threads + Sync>(
     one + two
 }
 
-/// Walks over all own rows, in 2^depth threads: each accumulator becomes the maximum of itself and of the rows of its own
+/// Walks over all own rows: each accumulator becomes the maximum of itself and of the rows of its own
 /// predecessors that are marked, as [`crate::spread::spread_own`] makes it, and the figures of those that differ from their
 /// rows then become those of superstep `t`. One that is stale becomes its row before. The answer is what the sum of the last
 /// estimates has gained.
 ///
-/// It takes no memory but that of the threads, and time in proportion to the edges to own vertices, over the processors.
-pub fn walk_own<R: Threads + Sync>(
-    rt: &R,
+/// It takes no memory but that of threads, and time in proportion to the edges to own vertices, over the processors.
+pub fn walk_own<H: Hands>(
+    hands: &H,
     walk: &Walk<'_>,
     accumulated: &mut Rows,
     touched: &mut [bool],
     weights: &mut [u64],
     tallies: &mut [Tally],
 ) -> u128
+    requires ready { H.ready hands.now }
     requires can { CanWalk walk.now.estimator.now walk.now.t walk.now.pull.part.now
         walk.now.pull.rows.now walk.now.pull.marks.now
         (fresh_table walk.now.stale walk.now.pull.rows.now accumulated.old) touched.old
@@ -243,5 +245,5 @@ pub fn walk_own<R: Threads + Sync>(
 {
     walk.pull.part.limits();
     let cells = accumulated.cells_mut();
-    walk_halves(rt, walk, 0, cells, touched, weights, tallies)
+    hands.walk(walk, cells, touched, weights, tallies)
 }

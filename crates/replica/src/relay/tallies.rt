@@ -12,15 +12,14 @@ ghost use Rattle.replica.specs.Tables.{AreStepped, CanBeStepped};
 ghost use Rattle.replica.specs.Walk.{CanWalk, Walks};
 
 use super::{Behind, Relay, Relayed, Shared, filled, mark_all};
-use crate::level::{self, Step};
-use crate::stepping::step_rows_by;
+use crate::level::Step;
+use crate::team::Hands;
 use crate::walk::{Walk, walk_own};
 use figures::Tally;
 use registers::{Rows, next_marked};
 use std::alloc::{AllocError, Global};
 use std::marker::Model;
 use std::sync::Arc;
-use std::thread::Threads;
 
 /// The figures of rows.
 #[derive(Drop)]
@@ -55,40 +54,32 @@ impl Tallies {
     }
 
     // They become the figures of the rows ahead, and the rows become these.
-    fn step(&mut self, step: &Step<'_>, rows: &mut Relay<Rows>, weights: &mut [u64]) -> u128
-        requires { CanBeStepped step.now.estimator.now step.now.t rows.old step.now.ahead.now
-            step.now.marks.now weights.old self.old }
-        ensures { AreStepped step.now.estimator.now step.now.t step.now.ahead.now self.old
-            self.new weights.new result rows.new }
-    {
-        level::step_rows(step, rows, weights, &mut self.items)
-    }
-
-    // Does what `step` does, in several threads.
-    fn step_by<R: Threads + Sync>(
+    fn step<H: Hands>(
         &mut self,
-        rt: &R,
+        hands: &H,
         step: &Step<'_>,
         rows: &mut Relay<Rows>,
         weights: &mut [u64],
     ) -> u128
-        requires { CanBeStepped step.now.estimator.now step.now.t rows.old step.now.ahead.now
+        requires ready { H.ready hands.now }
+        requires can { CanBeStepped step.now.estimator.now step.now.t rows.old step.now.ahead.now
             step.now.marks.now weights.old self.old }
         ensures { AreStepped step.now.estimator.now step.now.t step.now.ahead.now self.old
             self.new weights.new result rows.new }
     {
-        step_rows_by(rt, step, rows, weights, &mut self.items)
+        hands.step(step, rows, weights, &mut self.items)
     }
 
     // They become the figures of what is accumulated as the own rows are pulled.
-    fn walk<R: Threads + Sync>(
+    fn walk<H: Hands>(
         &mut self,
-        rt: &R,
+        hands: &H,
         walk: &Walk<'_>,
         accumulated: &mut Rows,
         touched: &mut [bool],
         weights: &mut [u64],
     ) -> u128
+        requires ready { H.ready hands.now }
         requires can { CanWalk walk.now.estimator.now walk.now.t walk.now.pull.part.now
             walk.now.pull.rows.now walk.now.pull.marks.now
             (fresh_table walk.now.stale walk.now.pull.rows.now accumulated.old) touched.old
@@ -100,7 +91,7 @@ impl Tallies {
             (fresh_table walk.now.stale walk.now.pull.rows.now accumulated.old) accumulated.new
             touched.old touched.new self.old self.new weights.new result }
     {
-        walk_own(rt, walk, accumulated, touched, weights, &mut self.items)
+        walk_own(hands, walk, accumulated, touched, weights, &mut self.items)
     }
 
     // Each stale one becomes that of `ahead`, which are as many, and from which no other one differs.
@@ -171,35 +162,18 @@ impl Relayed for Tallies {
 }
 
 impl Relay<Tallies> {
-    /// They become the figures of the rows ahead, and the rows become these, as [`level::step_rows`] steps them. It
-    /// takes no memory. If a table was handed out, those that changed since the one before it are copied too, and all
-    /// of them if somebody still holds that one.
-    pub fn step(&mut self, step: &Step<'_>, rows: &mut Relay<Rows>, weights: &mut [u64]) -> u128
-        requires { CanBeStepped step.now.estimator.now step.now.t rows.old step.now.ahead.now
-            step.now.marks.now weights.old self.old }
-        ensures { AreStepped step.now.estimator.now step.now.t step.now.ahead.now self.old
-            self.new weights.new result rows.new }
-    {
-        let out = self.out.take();
-        go_on(
-            &mut self.own,
-            out,
-            &mut self.behind,
-            &mut self.spare,
-            step.marks,
-        );
-        self.own.step(step, rows, weights)
-    }
-
-    /// Does what [`Relay::step`] does, in several threads. It takes no memory but that of the threads.
-    pub fn step_by<R: Threads + Sync>(
+    /// They become the figures of the rows ahead, and the rows become these. It takes no memory but that of threads. If a
+    /// table was handed out, those that changed since the one before it are copied too, and all of them if somebody still
+    /// holds that one.
+    pub fn step<H: Hands>(
         &mut self,
-        rt: &R,
+        hands: &H,
         step: &Step<'_>,
         rows: &mut Relay<Rows>,
         weights: &mut [u64],
     ) -> u128
-        requires { CanBeStepped step.now.estimator.now step.now.t rows.old step.now.ahead.now
+        requires ready { H.ready hands.now }
+        requires can { CanBeStepped step.now.estimator.now step.now.t rows.old step.now.ahead.now
             step.now.marks.now weights.old self.old }
         ensures { AreStepped step.now.estimator.now step.now.t step.now.ahead.now self.old
             self.new weights.new result rows.new }
@@ -212,19 +186,20 @@ impl Relay<Tallies> {
             &mut self.spare,
             step.marks,
         );
-        self.own.step_by(rt, step, rows, weights)
+        self.own.step(hands, step, rows, weights)
     }
 
     /// They become the figures of what is accumulated as the own rows are pulled, as [`walk_own`] does it. It takes no
     /// memory but that of the threads, and copies what [`Relay::step`] does.
-    pub fn walk<R: Threads + Sync>(
+    pub fn walk<H: Hands>(
         &mut self,
-        rt: &R,
+        hands: &H,
         walk: &Walk<'_>,
         accumulated: &mut Rows,
         touched: &mut [bool],
         weights: &mut [u64],
     ) -> u128
+        requires ready { H.ready hands.now }
         requires can { CanWalk walk.now.estimator.now walk.now.t walk.now.pull.part.now
             walk.now.pull.rows.now walk.now.pull.marks.now
             (fresh_table walk.now.stale walk.now.pull.rows.now accumulated.old) touched.old
@@ -238,7 +213,7 @@ impl Relay<Tallies> {
     {
         let shown = self.out.take();
         let left = take_up(&mut self.own, shown, &mut self.behind, &mut self.spare);
-        let gain = self.own.walk(rt, walk, accumulated, touched, weights);
+        let gain = self.own.walk(hands, walk, accumulated, touched, weights);
         leave(&mut self.behind, left, touched);
         gain
     }

@@ -23,12 +23,11 @@ ghost use Rattle.replica.specs.Start.{Starts};
 use crate::early::Early;
 use crate::first::FirstTables;
 use crate::hearing::Hearing;
-use crate::level::Team;
-use crate::stage::is_same;
-use crate::pull::Sizes;
 use crate::shown::Shown;
+use crate::stage::is_same;
 use crate::targets::Targets;
-use crate::{Stage, Replica, Snapshot};
+use crate::team::{Alone, Sizes, Team};
+use crate::{Replica, Snapshot, Stage};
 use ball_model::{CloseError, MergeError, TakeError, Taken};
 use batches::Batch;
 use figures::Estimator;
@@ -188,7 +187,7 @@ impl Replica {
         ensures step { (j : Job) (p : ℕ) → Closes j p result self.old self.new }
     {
         self.stage
-            .close_level(&self.targets, &self.estimator, &mut self.weights)
+            .close_level(&Alone, &self.targets, &self.estimator, &mut self.weights)
     }
 
     /// Closes the superstep as [`Replica::close`] does, in so many threads, or the next power of 2 below. If many vertices
@@ -220,7 +219,7 @@ impl Replica {
         let sizes = Sizes::usual();
         let team = Team { rt, threads, sizes };
         self.stage
-            .close_level_by(&team, &self.targets, &self.estimator, &mut self.weights)
+            .close_level(&team, &self.targets, &self.estimator, &mut self.weights)
     }
 
     /// Closes the superstep as [`Replica::close`] does, by a team.
@@ -230,7 +229,7 @@ impl Replica {
         team: &Team<'_, R>,
     ) -> Result<u32, CloseError> {
         self.stage
-            .close_level_by(team, &self.targets, &self.estimator, &mut self.weights)
+            .close_level(team, &self.targets, &self.estimator, &mut self.weights)
     }
 
     /// Gives back the memory that a run that is over needs no more: that of the index, that of the accumulators if each
@@ -290,8 +289,7 @@ impl Replica {
     {
         let mut shared = other.early.share(alloc)?;
         self.targets.renew(alloc, &self.stage.part)?;
-        self.stage
-            .absorb(alloc, &self.targets, other, &mut shared)?;
+        self.stage.absorb(alloc, &self.targets, other, &mut shared)?;
         self.stage.weigh_again(&mut self.weights);
         Ok(())
     }

@@ -8,7 +8,7 @@ ghost use Rattle.ball_model.specs.State.{StandsFor};
 ghost use Rattle.replica.specs.Sent.{AreChanged, AreChangedVertices, batch_name};
 ghost use Rattle.replica.specs.Sent.{changed_registers, sent_batch};
 
-use crate::level::count_set;
+use crate::marks::count_set;
 use crate::telling::Telling;
 use crate::{Replica, Shown};
 use ball_model::BatchName;

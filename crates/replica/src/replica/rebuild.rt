@@ -12,7 +12,7 @@ use crate::hearing::{self, Hearing};
 use crate::saved::Saved;
 use crate::tables::{self, Tables};
 use crate::targets::Targets;
-use crate::{Stage, Replica, Shown, start};
+use crate::{Replica, Shown, Stage, start};
 use batches::Batch;
 use graph::Part;
 use std::alloc::{AllocError, Global};

@@ -11,7 +11,8 @@ ghost use Rattle.replica.specs.Seen.{IsState};
 use crate::early::Early;
 use crate::stage::is_same;
 use crate::targets::Targets;
-use crate::{Stage, Shown};
+use crate::team::Alone;
+use crate::{Shown, Stage};
 use std::alloc::{AllocError, Global};
 
 impl Stage {
@@ -56,7 +57,8 @@ impl Stage {
         ensures whole { OnOk result (IsWhole self.new) }
         ensures state { IsState self.new.state }
     {
-        self.hearing.take_back(&mut self.spare, &self.tables);
+        self.hearing
+            .take_back(&Alone, &mut self.spare, &self.tables);
         self.hearing.renew(alloc, self.tables.rows())
     }
 

@@ -5,8 +5,9 @@ ghost use Rattle.ball_model.specs.State.{content_of};
 ghost use Rattle.replica.specs.Level.{is_changing, level_verdict};
 ghost use Rattle.replica.specs.Seen.{IsPlaceOf, OwnsVertex};
 
+use crate::Stage;
 use crate::hearing::Hearing;
-use crate::{Stage, level};
+use crate::marks::any_marked;
 use ball_model::Verdict;
 use ball_model::plan::MOST_PARTS;
 use registers::Rows;
@@ -51,7 +52,7 @@ impl Stage {
     pub(crate) fn is_changing(&self) -> bool
         ensures { result ≡ is_changing self.now.state }
     {
-        self.hearing.change() || level::any_marked(self.tables.marks())
+        self.hearing.change() || any_marked(self.tables.marks())
     }
 
     // The verdict of a level that is held.

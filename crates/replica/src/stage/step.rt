@@ -13,7 +13,8 @@ use crate::early::LEVELS;
 use crate::level::Closing;
 use crate::stage::is_same;
 use crate::targets::Targets;
-use crate::{Stage, Shown};
+use crate::team::{Alone, Hands};
+use crate::{Shown, Stage};
 use ball_model::{CloseError, TakeError, Taken, Verdict};
 use batches::Batch;
 use figures::Estimator;
@@ -56,7 +57,8 @@ impl Stage {
     {
         let name = batch.name();
         if name.superstep == self.superstep {
-            self.hearing.take_back(&mut self.spare, &self.tables);
+            self.hearing
+                .take_back(&Alone, &mut self.spare, &self.tables);
             self.hearing.hear(targets, &batch);
         } else {
             let level = (name.superstep - self.superstep - 1) as usize;
@@ -65,13 +67,15 @@ impl Stage {
     }
 
     /// Closes the superstep, as what the replica has says. Weights are carried forward.
-    pub(crate) fn close_level(
+    pub(crate) fn close_level<H: Hands>(
         &mut self,
+        hands: &H,
         targets: &Targets,
         estimator: &Estimator,
         weights: &mut [u64],
     ) -> Result<u32, CloseError>
-        requires { HoldsTogether self.old targets.now estimator.now weights.old }
+        requires ready { H.ready hands.now }
+        requires goes_on { HoldsTogether self.old targets.now estimator.now weights.old }
         ensures exact { result ≡ close_answer self.old.state }
         ensures refused { OnErr result (self.new.state ≡ self.old.state) }
         ensures advances { OnOk result (Advances self.old.state self.new.state) }
@@ -83,7 +87,7 @@ impl Stage {
             Some(source) => Err(CloseError::Waiting { source }),
             None => match self.level_verdict() {
                 Verdict::GoOn => {
-                    self.advance(targets, estimator, weights);
+                    self.advance(hands, targets, estimator, weights);
                     Ok(next)
                 }
                 Verdict::Stable | Verdict::Limit => Err(CloseError::Finished),
@@ -97,7 +101,8 @@ impl Stage {
         requires { CanLetGo self.old }
         ensures { StaysSame self.old self.new }
     {
-        self.hearing.take_back(&mut self.spare, &self.tables);
+        self.hearing
+            .take_back(&Alone, &mut self.spare, &self.tables);
         self.tables.give_back();
         self.hearing.let_go();
     }
@@ -115,21 +120,49 @@ impl Stage {
         }
     }
 
+    // One superstep more.
+    fn advance<H: Hands>(
+        &mut self,
+        hands: &H,
+        targets: &Targets,
+        estimator: &Estimator,
+        weights: &mut [u64],
+    )
+        requires ready { H.ready hands.now }
+        requires goes_on { HoldsTogether self.old targets.now estimator.now weights.old }
+        requires going { level_verdict self.old.state ≡ verdict.GoOn }
+        ensures { GoesFurther self.old.state self.new targets.now estimator.now weights.new }
+    {
+        if self.tables.are_walked(hands, &self.part) {
+            self.walk_on(hands, targets, estimator, weights);
+        } else {
+            self.spread_on(hands, targets, estimator, weights);
+        }
+    }
+
     // One superstep more: what changed in the own partition is heard too, what was accumulated becomes the rows, and
     // the batches of the new superstep are heard.
-    fn advance(&mut self, targets: &Targets, estimator: &Estimator, weights: &mut [u64])
+    fn spread_on<H: Hands>(
+        &mut self,
+        hands: &H,
+        targets: &Targets,
+        estimator: &Estimator,
+        weights: &mut [u64],
+    )
+        requires ready { H.ready hands.now }
         requires goes_on { HoldsTogether self.old targets.now estimator.now weights.old }
         requires going { level_verdict self.old.state ≡ verdict.GoOn }
         ensures { GoesFurther self.old.state self.new targets.now estimator.now weights.new }
     {
         let plan = *self.part.plan();
-        self.hearing.take_back(&mut self.spare, &self.tables);
+        self.hearing.take_back(hands, &mut self.spare, &self.tables);
         self.hearing.hear_own(targets, &self.part, &self.tables);
         let closing = Closing {
             estimator: &*estimator,
             t: self.superstep,
         };
-        self.tables.next(&closing, &mut self.hearing, weights);
+        self.tables
+            .next(hands, &closing, &mut self.hearing, weights);
         self.superstep += 1;
         self.hearing.hear_early(targets, &plan, &mut self.early, 0);
     }

@@ -5,7 +5,7 @@ ghost use Rattle.std.specs.Vec.{vec_capacity};
 ghost use Rattle.replica.specs.Kept.{AreCounters};
 ghost use Rattle.replica.specs.Level.{weights_of};
 
-use crate::{Stage, Shown};
+use crate::{Shown, Stage};
 use ball_model::Plan;
 use figures::weight;
 use registers::Rows;

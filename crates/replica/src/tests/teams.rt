@@ -6,8 +6,7 @@ use super::calls::exchange;
 use super::jobs::{begun, graph};
 use super::shown::{shows_all, vertex_of};
 use super::*;
-use crate::level::Team;
-use crate::pull::Sizes;
+use crate::team::{Sizes, Team};
 use std::alloc::{AllocGlobal, Global};
 use std::thread::Threads;
 

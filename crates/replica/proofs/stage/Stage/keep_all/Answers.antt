@@ -10,8 +10,8 @@ ready c =
     let whole = made_whole c.self.inside c.args.self.now c.take_back.new.self c.take_back.new.spare c.self.invariant c.self.view_is c.take_back.ensures in
     readied c.renew.result (record c.self.inside { hearing = c.take_back.new.self; spare = c.take_back.new.spare }) c.args.self.now c.rows.result.now c.renew.new.self whole c.requires c.rows.ensures c.renew.ensures.renewed c.renew.ensures.refused
 
-pub take_back-requires : goal.take_back-requires
-take_back-requires c = is_spare c.self.inside c.self.invariant
+pub take_back-requires-clause-spare : goal.take_back-requires-clause-spare
+take_back-requires-clause-spare c = is_spare c.self.inside c.self.invariant
 
 pub renew-requires : goal.renew-requires
 renew-requires c =

@@ -8,8 +8,8 @@ gone c =
     let whole = made_whole c.self.inside c.args.self.now c.take_back.new.self c.take_back.new.spare c.self.invariant c.self.view_is c.take_back.ensures in
     let_gone (record c.self.inside { hearing = c.take_back.new.self; spare = c.take_back.new.spare }) c.args.self.now c.give_back.new.self c.let_go.new.self whole c.requires c.give_back.ensures (c.let_go.ensures c.self.inside.tables.rows.rows c.take_back.ensures.same.kept)
 
-pub take_back-requires : goal.take_back-requires
-take_back-requires c = is_spare c.self.inside c.self.invariant
+pub take_back-requires-clause-spare : goal.take_back-requires-clause-spare
+take_back-requires-clause-spare c = is_spare c.self.inside c.self.invariant
 
 pub invariant_of-self : goal.invariant_of-self
 invariant_of-self c = (gone (goal.at.invariant_of-self c).After-let_go).limits

@@ -35,8 +35,8 @@ heard c is h = heard_now (record c.self.inside { hearing = c.take_back.new.self;
 kept : (c : After-keep) → Kept (record c.self.inside { early = c.keep.new.self }) c.args.self.now.state (arc_value c.args.batch)
 kept c = kept_later c.self.inside c.args.self.now.state (arc_value c.args.batch) c.name-name.result c.keep.new.self c.self.invariant (subst (λ (k : StageValue). CanGoOn k) (sym c.self.view_is) c.requires.by.goes_on) (state_is c.self.view_is) (subst (λ (b : BatchValue). IsBatch b) c.deref.ensures c.name-name.ensures.batch) c.requires.new (c.name-name.ensures.value ∙ ap (λ (x : BatchValue). x.name) c.deref.ensures) c.if-name-self.false c.keep.ensures.table c.keep.ensures.kept
 
-pub take_back-requires : goal.take_back-requires
-take_back-requires c = is_spare c.self.inside c.self.invariant
+pub take_back-requires-clause-spare : goal.take_back-requires-clause-spare
+take_back-requires-clause-spare c = is_spare c.self.inside c.self.invariant
 
 pub hear-requires : goal.hear-requires
 hear-requires c = subst (λ (x : BatchValue). HearsByIndex x.plan.log2m c.args.targets.now c.take_back.new.self) (sym c.deref-then-name-self.ensures) (now (goal.at.hear-requires c).After-deref-then-name-self).ready

@@ -13,29 +13,29 @@ use Rattle.replica.proofs.tables.Tables.next.Goals as goal
 use Rattle.replica.proofs.tables.Tables.next.Goals.{After-touched-marks, After-step-gain}
 
 -- they can go on, as the fields stand
-can : (c : After-touched-marks) → CanStep c.args.closing.now.estimator.now c.args.closing.now.t (tables_of c.self.inside) c.args.hearing.now c.args.weights.now
-can c = subst (λ (a : TablesValue). CanStep c.args.closing.now.estimator.now c.args.closing.now.t a c.args.hearing.now c.args.weights.now) (sym c.self.view_is) c.requires
+can : (g : _) (c : After-touched-marks g) → CanStep c.args.closing.now.estimator.now c.args.closing.now.t (tables_of c.self.inside) c.args.hearing.now c.args.weights.now
+can g c = subst (λ (a : TablesValue). CanStep c.args.closing.now.estimator.now c.args.closing.now.t a c.args.hearing.now c.args.weights.now) (sym c.self.view_is) c.requires.can
 
 -- the last sum, and the next one
-sums : (c : After-step-gain) → CanStep c.args.closing.now.estimator.now c.args.closing.now.t (tables_of c.self.inside) c.args.hearing.now c.args.weights.now → (c.index-last.result.now ≡ sum_by (λ (v : TallyValue). v.last) c.self.inside.tallies) × (c.index-last.result.now + c.step-gain.result ≡ total_of c.args.closing.now.estimator.now c.args.hearing.now.accumulated.rows)
-sums c ok = next_at c.args.closing.now.estimator.now c.args.closing.now.t c.args.hearing.now.accumulated.rows c.self.inside.tallies c.step-gain.new.self c.self.inside.sums.items c.index-last.result.now c.step-gain.result ok.sums c.index-last.ensures (rw c.ahead-ahead.ensures at c.step-gain.ensures.tallies) c.step-gain.ensures.gain
+sums : (g : _) (c : After-step-gain g) → CanStep c.args.closing.now.estimator.now c.args.closing.now.t (tables_of c.self.inside) c.args.hearing.now c.args.weights.now → (c.index-last.result.now ≡ sum_by (λ (v : TallyValue). v.last) c.self.inside.tallies) × (c.index-last.result.now + c.step-gain.result ≡ total_of c.args.closing.now.estimator.now c.args.hearing.now.accumulated.rows)
+sums g c ok = next_at c.args.closing.now.estimator.now c.args.closing.now.t c.args.hearing.now.accumulated.rows c.self.inside.tallies c.step-gain.new.self c.self.inside.sums.items c.index-last.result.now c.step-gain.result ok.sums c.index-last.ensures (rw c.ahead-ahead.ensures at c.step-gain.ensures.tallies) c.step-gain.ensures.gain
 
-pub step-gain-requires : goal.step-gain-requires
-step-gain-requires c = rw (c.ahead-ahead.ensures, c.touched-marks.ensures) (can_be_stepped (can (goal.at.step-gain-requires c).After-touched-marks))
+pub step-gain-requires-clause-can : goal.step-gain-requires-clause-can
+step-gain-requires-clause-can g c = rw (c.ahead-ahead.ensures, c.touched-marks.ensures) (can_be_stepped (can g (goal.at.step-gain-requires-clause-can g c).After-touched-marks))
 
-pub overflow_add-last : goal.overflow_add-last
-overflow_add-last c =
-    let at = goal.at.overflow_add-last c in
-    let ok = can at.After-touched-marks in
+pub overflow_add-sum : goal.overflow_add-sum
+overflow_add-sum g c =
+    let at = goal.at.overflow_add-sum g c in
+    let ok = can g at.After-touched-marks in
     let own = c.args.hearing.now.accumulated.rows in
-    omega (arith, (sums at.After-step-gain ok).1, total_small c.args.closing.now.estimator.now own (rise_counters c.args.closing.now.estimator.now.log2m c.self.inside.rows.rows own ok.ahead.rise).row, ok.few, ok.ahead.rise.count)
+    omega (arith, (sums g at.After-step-gain ok).1, total_small c.args.closing.now.estimator.now own (rise_counters c.args.closing.now.estimator.now.log2m c.self.inside.rows.rows own ok.ahead.rise).row, ok.few, ok.ahead.rise.count)
 
 pub invariant_of-self : goal.invariant_of-self
-invariant_of-self c =
-    let at = goal.at.invariant_of-self c in
+invariant_of-self g c =
+    let at = goal.at.invariant_of-self g c in
     let m = c.args.closing.now.estimator.now in
     let own = c.args.hearing.now.accumulated in
-    let ok = can at.After-touched-marks in
+    let ok = can g at.After-touched-marks in
     let rows : length c.step-gain.new.rows.rows ≡ length own.rows = ap (λ (t : Table). length t.rows) (c.step-gain.ensures.rows ∙ c.ahead-ahead.ensures) in
     let ahead : length c.ahead-ahead.result.now.rows ≡ length own.rows = ap (λ (t : Table). length t.rows) c.ahead-ahead.ensures in
     let marks : length c.begin.new.marks ≡ c.self.inside.marks.len = omega (arith, c.begin.auto.marks, c.deref_mut.ensures.len, c.self.inside.marks.ok.0) in
@@ -45,13 +45,13 @@ invariant_of-self c =
     }
 
 pub returns : goal.returns
-returns c =
-    let at = goal.at.returns c in
-    let ok = can at.After-touched-marks in
+returns g c =
+    let at = goal.at.returns g c in
+    let ok = can g at.After-touched-marks in
     let m = c.args.closing.now.estimator.now in
     let rows = c.self.inside.rows.rows in
     let own = c.args.hearing.now.accumulated.rows in
-    let last = sums at.After-step-gain ok in
+    let last = sums g at.After-step-gain ok in
     let is : c.step-gain.new.rows ≡ c.args.hearing.now.accumulated = c.step-gain.ensures.rows ∙ c.ahead-ahead.ensures in
     let marks : length c.begin.new.marks ≡ c.self.inside.marks.len = omega (arith, c.begin.auto.marks, c.deref_mut.ensures.len, c.self.inside.marks.ok.0) in
     let after = tables_of (record { rows = c.step-gain.new.rows; marks = with_items c.self.inside.marks c.begin.new.marks; tallies = c.step-gain.new.self; sums = c.push_reserved.new.self }) in

@@ -7,30 +7,30 @@ use Rattle.replica.proofs.relay.tallies.Relay+Tallies.step.Goals as goal
 use Rattle.replica.proofs.relay.tallies.Relay+Tallies.step.Goals.{After-step}
 
 -- what is shown
-shown_is : (c : After-step) → shown_of c.self.inside.own c.take-out.result ≡ c.args.self.now
-shown_is c = rw c.take-out.ensures.value c.self.view_is
+shown_is : (g : _) (c : After-step g) → shown_of c.self.inside.own c.take-shown.result ≡ c.args.self.now
+shown_is g c = rw c.take-shown.ensures.value c.self.view_is
 
 -- it is in the own table
-own_is : (c : After-step) → c.go_on.new.own ≡ c.args.self.now
-own_is c = c.go_on.ensures.own_is ∙ shown_is c
+own_is : (g : _) (c : After-step g) → c.go_on.new.own ≡ c.args.self.now
+own_is g c = c.go_on.ensures.own_is ∙ shown_is g c
 
 -- the own table, stepped
-stepped : (c : After-step) → c.step.new.self ≡ next_tallies c.args.step.now.estimator.now c.args.step.now.t c.args.step.now.ahead.now.rows c.args.self.now (length c.args.step.now.ahead.now.rows)
-stepped c =
+stepped : (g : _) (c : After-step g) → c.step.new.self ≡ next_tallies c.args.step.now.estimator.now c.args.step.now.t c.args.step.now.ahead.now.rows c.args.self.now (length c.args.step.now.ahead.now.rows)
+stepped g c =
     c.step.ensures.tallies
-    ∙ ap (λ (l : List TallyValue). next_tallies c.args.step.now.estimator.now c.args.step.now.t c.args.step.now.ahead.now.rows l (length c.args.step.now.ahead.now.rows)) (own_is c)
+    ∙ ap (λ (l : List TallyValue). next_tallies c.args.step.now.estimator.now c.args.step.now.t c.args.step.now.ahead.now.rows l (length c.args.step.now.ahead.now.rows)) (own_is g c)
 
 pub invariant_of-self : goal.invariant_of-self
 unfolding shown_of next_tallies
-invariant_of-self c =
-    let at = (goal.at.invariant_of-self c).After-step in
+invariant_of-self g c =
+    let at = (goal.at.invariant_of-self g c).After-step in
     let new = c.step.new.self in
-    let gone : c.take-out.new.self ≡ None = search rules in
-    rw gone (c.go_on.ensures.behind_is new (subst (λ (l : List TallyValue). DifferAt c.args.step.now.marks.now l new) (sym (shown_is at)) (grind (arith, length-next_tallies, get_or-map-range_with_len, stepped at))))
+    let gone : c.take-shown.new.self ≡ None = search rules in
+    rw gone (c.go_on.ensures.behind_is new (subst (λ (l : List TallyValue). DifferAt c.args.step.now.marks.now l new) (sym (shown_is g at)) (grind (arith, length-next_tallies, get_or-map-range_with_len, stepped g at))))
 
 pub returns : goal.returns
 unfolding shown_of
-returns c =
-    let at = (goal.at.returns c).After-step in
-    let gone : c.take-out.new.self ≡ None = search rules in
-    rw (gone, ← own_is at) c.step.ensures
+returns g c =
+    let at = (goal.at.returns g c).After-step in
+    let gone : c.take-shown.new.self ≡ None = search rules in
+    rw (gone, ← own_is g at) c.step.ensures

@@ -24,7 +24,7 @@ count g c shown =
     c.walk-gain.auto.touched ∙ can.pull.each ∙ sym can.pull.can.count ∙ sym (lasts_count _ _ _ can.lasts) ∙ ap (length {A = TallyValue}) (sym shown)
 
 pub walk-gain-requires-clause-can : goal.walk-gain-requires-clause-can
-walk-gain-requires-clause-can g c κs within = rw (own_is g (goal.at.walk-gain-requires-clause-can g c).After-take_up-left) c.requires.can
+walk-gain-requires-clause-can g c = rw (own_is g (goal.at.walk-gain-requires-clause-can g c).After-take_up-left) c.requires.can
 
 pub leave-requires-clause-room : goal.leave-requires-clause-room
 leave-requires-clause-room g c =

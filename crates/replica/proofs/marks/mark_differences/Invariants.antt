@@ -1,6 +1,6 @@
 use Rattle.std.proofs.Common.{◌≡◌, ℕ, ◌<◌, not, slice_index_or, length, [], false}
 use Rattle.replica.proofs.Names.{bytes_eq}
-use Rattle.replica.proofs.level.mark_differences.Given as goal
+use Rattle.replica.proofs.marks.mark_differences.Given as goal
 
 abbrev pub invariant-loop-i : goal.invariant-loop-i
 invariant-loop-i l = record {

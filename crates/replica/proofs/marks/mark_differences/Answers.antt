@@ -2,7 +2,7 @@ use Rattle.std.proofs.Common.{not, false, slice_index_or, length, [], arith}
 use Rattle.replica.proofs.Names.{bytes_eq}
 use Rattle.replica.specs.Level.{differences}
 use Rattle.replica.proofs.LevelLemmas.Step.{list_is}
-use Rattle.replica.proofs.level.mark_differences.Goals as goal
+use Rattle.replica.proofs.marks.mark_differences.Goals as goal
 
 pub returns : goal.returns
 unfolding differences

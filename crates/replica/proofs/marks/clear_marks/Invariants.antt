@@ -1,5 +1,5 @@
 use Rattle.std.proofs.Common.{◌≡◌, ℕ, ◌<◌, slice_index_or, length, false}
-use Rattle.replica.proofs.level.clear_marks.Given as goal
+use Rattle.replica.proofs.marks.clear_marks.Given as goal
 
 abbrev pub invariant-loop-i : goal.invariant-loop-i
 invariant-loop-i l = record {

@@ -1,6 +1,6 @@
 use Rattle.std.proofs.Common.{◌≡◌, ℕ, nat_lt, Bool, false, List, length, inl, inr, sym, ◌∙◌, arith}
 use Rattle.replica.proofs.Names.{list_any, cases_lt, le-ltb, lt-ltb, get_or_default, list_any_at, list_any_none, IsNextMarked}
-use Rattle.replica.proofs.level.any_marked.Goals as goal
+use Rattle.replica.proofs.marks.any_marked.Goals as goal
 
 -- there is a marked place exactly where the first one is no end
 some_marked : (marks : List Bool) (next : ℕ) → IsNextMarked marks 0 next → nat_lt next (length marks) ≡ list_any (λ mark. mark) marks
