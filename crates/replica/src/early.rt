@@ -21,7 +21,7 @@ pub const LEVELS: usize = 3;
 ///
 /// All its room is taken when it is made.
 #[derive(Drop)]
-pub struct Early {
+pub(crate) struct Early {
     parts: usize,
     // at level * parts + source
     slots: Vec<Option<Arc<Batch>>>,
@@ -43,7 +43,7 @@ impl Model for Early {
 
 impl Early {
     /// Room for the batches of so many sources.
-    pub fn empty(alloc: Global, parts: u16) -> Result<Early, AllocError>
+    pub(crate) fn empty(alloc: Global, parts: u16) -> Result<Early, AllocError>
         ensures { IfOk result (IsEmptyTable parts) }
     {
         let parts = usize::from(parts);
@@ -52,7 +52,7 @@ impl Early {
     }
 
     /// The batch of a source, `level` supersteps after the next one.
-    pub fn get(&self, level: usize, source: u16) -> Option<&Batch>
+    pub(crate) fn get(&self, level: usize, source: u16) -> Option<&Batch>
         ensures { option_map (λ b. b.now) result ≡ early_at self.now level source }
     {
         let source = usize::from(source);
@@ -66,14 +66,14 @@ impl Early {
     }
 
     /// How many batches are kept.
-    pub fn count(&self) -> usize
+    pub(crate) fn count(&self) -> usize
         ensures { result ≡ length (kept_batches self.now) }
     {
         self.slots.iter().flatten().count()
     }
 
     /// The batch that is kept at place `i`, by superstep, then by source.
-    pub fn nth(&self, i: usize) -> Option<&Batch>
+    pub(crate) fn nth(&self, i: usize) -> Option<&Batch>
         ensures { option_map (λ b. b.now) result ≡ slice_get (kept_batches self.now) i }
     {
         match self.slots.iter().flatten().nth(i) {
@@ -83,7 +83,7 @@ impl Early {
     }
 
     /// Keeps the batch of a source.
-    pub fn keep(&mut self, level: usize, source: u16, batch: Arc<Batch>)
+    pub(crate) fn keep(&mut self, level: usize, source: u16, batch: Arc<Batch>)
         requires level { level < LEVELS }
         requires source { (parts : ℕ) → IsTable parts self.old → source < parts }
         ensures { KeepsAlso level source (arc_value batch) self.old self.new }
@@ -93,7 +93,7 @@ impl Early {
     }
 
     /// So many supersteps go, and the others come nearer.
-    pub fn shift(&mut self, count: usize)
+    pub(crate) fn shift(&mut self, count: usize)
         requires { count ≤ LEVELS }
         ensures { ComesNearer count self.old self.new }
     {
@@ -101,7 +101,7 @@ impl Early {
     }
 
     /// Each source without a batch gets that of the other one.
-    pub fn fill(&mut self, other: &mut Early)
+    pub(crate) fn fill(&mut self, other: &mut Early)
         requires { StaysTable self.old other.old }
         ensures { KeepsEither self.old other.old self.new }
     {
@@ -109,7 +109,7 @@ impl Early {
     }
 
     /// These batches, shared.
-    pub fn share(&self, alloc: Global) -> Result<Early, AllocError>
+    pub(crate) fn share(&self, alloc: Global) -> Result<Early, AllocError>
         ensures { IfOk result (λ e. e ≡ self.now) }
     {
         let slots = share_slots(alloc, &self.slots)?;

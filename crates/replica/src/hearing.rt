@@ -33,7 +33,7 @@ use std::mem;
 
 /// Of which sources a superstep's batches are heard, and what is accumulated for each row.
 #[derive(Drop)]
-pub struct Hearing {
+pub(crate) struct Hearing {
     // which sources are heard
     heard: SourceMask,
     // whether one of them tells of a changed vertex
@@ -62,14 +62,14 @@ impl Model for Hearing {
 
 impl Hearing {
     /// Nothing is heard, and what is accumulated are the rows.
-    pub fn start(alloc: Global, rows: &Rows) -> Result<Hearing, AllocError>
+    pub(crate) fn start(alloc: Global, rows: &Rows) -> Result<Hearing, AllocError>
         ensures { IfOk result (λ h. IsQuiet rows.now h) }
     {
         Hearing::quiet(alloc, copy_rows(alloc, rows)?)
     }
 
     /// Nothing is heard, and these are the accumulators, equal to the rows.
-    pub fn quiet(alloc: Global, accumulated: Rows) -> Result<Hearing, AllocError>
+    pub(crate) fn quiet(alloc: Global, accumulated: Rows) -> Result<Hearing, AllocError>
         ensures { IfOk result (IsQuiet accumulated) }
     {
         let touched = vec![in alloc; false; accumulated.len()]?;
@@ -82,7 +82,12 @@ impl Hearing {
     }
 
     /// This is heard and accumulated; those accumulators are marked that differ from their rows.
-    pub fn of(heard: SourceMask, change: bool, accumulated: Rows, touched: Vec<bool>) -> Hearing
+    pub(crate) fn of(
+        heard: SourceMask,
+        change: bool,
+        accumulated: Rows,
+        touched: Vec<bool>,
+    ) -> Hearing
         requires { length touched.items ≡ length accumulated.rows }
         ensures { result ≡ record {
           heard = heard;
@@ -100,7 +105,7 @@ impl Hearing {
     }
 
     /// Nothing is heard beside rows of this width, and no accumulators are kept. It takes no memory.
-    pub fn bare(alloc: Global, rows: &Rows) -> Result<Hearing, AllocError>
+    pub(crate) fn bare(alloc: Global, rows: &Rows) -> Result<Hearing, AllocError>
         ensures { IfOk result (IsQuiet (record { width = rows.now.width; rows = [] })) }
     {
         Hearing::quiet(alloc, Rows::fixed(alloc, 0, rows.width() as u16)?)
@@ -108,7 +113,7 @@ impl Hearing {
 
     /// What is heard goes to the accumulators that are spare, or is lent with those that are kept here if none is. Nothing
     /// is heard here then, and none is kept. The answer is whether those that are lent are stale.
-    pub fn lend(&mut self, spare: &mut Hearing) -> bool
+    pub(crate) fn lend(&mut self, spare: &mut Hearing) -> bool
         ensures { (rows : Table) (marks : List Bool) → IsSpare rows marks self.old spare.old →
             Lends rows marks self.old spare.old result self.new spare.new }
     {
@@ -135,7 +140,7 @@ impl Hearing {
 
     /// Accumulators that are spare are kept here again, each as its row is. It takes no memory but that of threads, and time
     /// in proportion to the rows that are marked.
-    pub fn take_back<H: Hands>(&mut self, hands: &H, spare: &mut Hearing, tables: &Tables)
+    pub(crate) fn take_back<H: Hands>(&mut self, hands: &H, spare: &mut Hearing, tables: &Tables)
         requires ready { H.ready hands.now }
         requires spare { IsSpare tables.now.rows tables.now.marks self.old spare.old }
         ensures { TakesBack tables.now.rows self.old spare.old self.new spare.new }
@@ -159,7 +164,7 @@ impl Hearing {
 
     /// The accumulators become the rows, without a copy of one: what was there before, which differs from these where they
     /// are marked alone, is kept as accumulators that are stale.
-    pub fn change_places(&mut self, rows: &mut Relay<Rows>, marks: &mut [bool])
+    pub(crate) fn change_places(&mut self, rows: &mut Relay<Rows>, marks: &mut [bool])
         requires count { length marks.old ≡ length self.old.accumulated.rows }
         requires differ { DifferWhere self.old.touched rows.old self.old.accumulated }
         ensures rows { rows.new ≡ self.old.accumulated }
@@ -171,21 +176,21 @@ impl Hearing {
     }
 
     /// Which sources are heard.
-    pub fn heard(&self) -> SourceMask
+    pub(crate) fn heard(&self) -> SourceMask
         ensures { result ≡ self.now.heard }
     {
         self.heard
     }
 
     /// Whether one of them tells of a changed vertex.
-    pub fn change(&self) -> bool
+    pub(crate) fn change(&self) -> bool
         ensures { result ≡ self.now.change }
     {
         self.change
     }
 
     /// The accumulators: the rows themselves if no others are kept.
-    pub fn accumulators<'a>(&'a self, rows: &'a Rows) -> &'a Rows
+    pub(crate) fn accumulators<'a>(&'a self, rows: &'a Rows) -> &'a Rows
         requires { rows.now.width ≡ self.now.accumulated.width }
         ensures rows { result.now.rows ≡ accumulators_of rows.now.rows self.now.accumulated.rows }
         ensures width { result.now.width ≡ rows.now.width }
@@ -199,14 +204,14 @@ impl Hearing {
 
     /// How many accumulators are kept.
     #[cfg(test)]
-    pub fn count(&self) -> usize
+    pub(crate) fn count(&self) -> usize
         ensures { result ≡ length self.now.accumulated.rows }
     {
         self.accumulated.len()
     }
 
     /// Hears a batch of the superstep: its rows are spread, and its source is heard.
-    pub fn hear(&mut self, targets: &Targets, batch: &Batch)
+    pub(crate) fn hear(&mut self, targets: &Targets, batch: &Batch)
         requires { HearsByIndex batch.now.plan.log2m targets.now self.old }
         ensures { HearsAlso batch.now.plan.log2m targets.now
             (batch_by batch.now.name.source (Some batch.now)) self.old self.new }
@@ -218,7 +223,13 @@ impl Hearing {
 
     /// Hears the batches that are kept of a superstep that has begun, the one after the next ones that passed. Only
     /// those of later ones are left.
-    pub fn hear_early(&mut self, targets: &Targets, plan: &Plan, early: &mut Early, passed: u32)
+    pub(crate) fn hear_early(
+        &mut self,
+        targets: &Targets,
+        plan: &Plan,
+        early: &mut Early,
+        passed: u32,
+    )
         requires { CanHear plan.now targets.now early.old self.old }
         ensures { HearsEarly plan.now.log2m targets.now passed early.old early.new
             self.old self.new }
@@ -234,21 +245,21 @@ impl Hearing {
     }
 
     /// What is accumulated, a row each: what the rows become.
-    pub fn ahead(&self) -> &Rows
+    pub(crate) fn ahead(&self) -> &Rows
         ensures { result.now ≡ self.now.accumulated }
     {
         &self.accumulated
     }
 
     /// Which of the accumulators differ from their rows.
-    pub fn touched(&self) -> &[bool]
+    pub(crate) fn touched(&self) -> &[bool]
         ensures { result.now ≡ self.now.touched }
     {
         &self.touched
     }
 
     /// What changed in the own partition is heard too: then the accumulators are the rows of the next superstep.
-    pub fn hear_own(&mut self, targets: &Targets, part: &Part, tables: &Tables)
+    pub(crate) fn hear_own(&mut self, targets: &Targets, part: &Part, tables: &Tables)
         requires { CanHearOwn part.now targets.now tables.now self.old }
         ensures { HearsOwn part.now targets.now tables.now self.old self.new }
     {
@@ -263,7 +274,7 @@ impl Hearing {
 
     /// The own rows that changed are heard as [`Hearing::hear_own`] hears them, and figures become those of what is
     /// accumulated then, in one walk. The answer is what the sum of the last estimates has gained.
-    pub fn hear_and_step<H: Hands>(
+    pub(crate) fn hear_and_step<H: Hands>(
         &mut self,
         hands: &H,
         walk: &Walk<'_>,
@@ -296,7 +307,7 @@ impl Hearing {
 
     /// Begins the next superstep, once what is accumulated has become the rows: those are marked that this has changed,
     /// and nothing is heard yet.
-    pub fn begin(&mut self, marks: &mut [bool])
+    pub(crate) fn begin(&mut self, marks: &mut [bool])
         requires { length marks.old ≡ length self.old.accumulated.rows }
         ensures { BeginsSuperstep self.old self.new marks.new }
     {
@@ -307,7 +318,7 @@ impl Hearing {
     }
 
     /// Becomes what is heard beside the rows of another one of the same partition.
-    pub fn assign(&mut self, rows: &Rows, other: &Hearing)
+    pub(crate) fn assign(&mut self, rows: &Rows, other: &Hearing)
         requires { CanFill rows.now other.now self.old }
         ensures { Fills rows.now other.now self.new }
     {
@@ -318,7 +329,7 @@ impl Hearing {
     }
 
     /// Takes over what another one of the same partition and superstep has heard, with these accumulators.
-    pub fn absorb(&mut self, alloc: Global, rows: &Rows, other: &Hearing, theirs: &Rows)
+    pub(crate) fn absorb(&mut self, alloc: Global, rows: &Rows, other: &Hearing, theirs: &Rows)
         requires { CanJoin rows.now theirs.now self.old }
         ensures { self.new ≡ record {
           heard = union_of_flags self.old.heard other.now.heard;
@@ -335,7 +346,7 @@ impl Hearing {
     }
 
     /// What was heard, in buffers of its own, with no accumulators if none of them differs from its row.
-    pub fn copied(&self, alloc: Global) -> Result<Hearing, AllocError>
+    pub(crate) fn copied(&self, alloc: Global) -> Result<Hearing, AllocError>
         ensures { IfOk result (λ copy. (rows : List (List ℕ)) →
             KeepsAllOrNone rows self.now → SaysSame rows self.now copy) }
     {
@@ -359,7 +370,7 @@ impl Hearing {
     }
 
     /// Drops the accumulators, if no row differs from what is accumulated for it.
-    pub fn let_go(&mut self)
+    pub(crate) fn let_go(&mut self)
         ensures { (rows : List (List ℕ)) →
             KeepsAllOrNone rows self.old → SaysSame rows self.old self.new }
     {
@@ -371,7 +382,7 @@ impl Hearing {
     }
 
     /// Keeps the accumulators again that were dropped. An error changes nothing.
-    pub fn renew(&mut self, alloc: Global, rows: &Rows) -> Result<(), AllocError>
+    pub(crate) fn renew(&mut self, alloc: Global, rows: &Rows) -> Result<(), AllocError>
         requires { CanRenew rows.now self.old }
         ensures renewed { OnOk result (Renews rows.now.rows self.old self.new) }
         ensures refused { OnErr result (self.new ≡ self.old) }
@@ -390,7 +401,11 @@ impl Hearing {
 }
 
 /// Which of the accumulators differ from their rows.
-pub fn differences(alloc: Global, rows: &Rows, accumulated: &Rows) -> Result<Vec<bool>, AllocError>
+pub(crate) fn differences(
+    alloc: Global,
+    rows: &Rows,
+    accumulated: &Rows,
+) -> Result<Vec<bool>, AllocError>
     requires { length accumulated.now.rows ≡ length rows.now.rows }
     ensures { IfOk result (λ touched. touched.items ≡
         differences rows.now.rows accumulated.now.rows (length rows.now.rows)) }

@@ -12,25 +12,25 @@ use registers::{Rows, next_marked};
 
 /// The superstep that is closed, and how estimates are made.
 #[derive(Clone, Copy, Drop)]
-pub struct Closing<'a> {
-    pub estimator: &'a Estimator,
-    pub t: u32,
+pub(crate) struct Closing<'a> {
+    pub(crate) estimator: &'a Estimator,
+    pub(crate) t: u32,
 }
 
 /// How figures come to superstep `t`: the rows ahead, from which the rows differ where they are marked, how estimates
 /// are made, and in how many threads it is done, as a power of 2, if it is done in several.
 #[derive(Clone, Copy, Drop)]
-pub struct Step<'a> {
-    pub estimator: &'a Estimator,
-    pub t: u32,
-    pub ahead: &'a Rows,
-    pub marks: &'a [bool],
-    pub depth: u32,
+pub(crate) struct Step<'a> {
+    pub(crate) estimator: &'a Estimator,
+    pub(crate) t: u32,
+    pub(crate) ahead: &'a Rows,
+    pub(crate) marks: &'a [bool],
+    pub(crate) depth: u32,
 }
 
 /// The figures of the rows ahead; the answer is what the sum of the last estimates has gained. Weights are carried forward,
 /// figures of rows that did not change stay as they are, and the rows become those ahead.
-pub fn step_rows(
+pub(crate) fn step_rows(
     step: &Step<'_>,
     rows: &mut Relay<Rows>,
     weights: &mut [u64],
@@ -88,7 +88,7 @@ fn row_before<'a>(before: &'a Option<Behind<Rows>>, rows: &'a Relay<Rows>, i: us
 
 /// The figures of a row that has become the one ahead at superstep `t`; the answer is what its estimate has gained.
 #[inline(always)]
-pub fn step_tally(
+pub(crate) fn step_tally(
     estimator: &Estimator,
     t: u32,
     row: &[u8],
@@ -107,7 +107,7 @@ pub fn step_tally(
 }
 
 /// The sum of the last estimates.
-pub fn sum_of_lasts(tallies: &[Tally]) -> u128
+pub(crate) fn sum_of_lasts(tallies: &[Tally]) -> u128
     ensures { result ≡ sum_by (λ tally. tally.last) tallies.now }
 {
     let mut sum = 0;

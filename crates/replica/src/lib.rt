@@ -47,7 +47,7 @@ mod marks;
 mod pull;
 mod relay;
 mod replica;
-pub mod saved;
+mod saved;
 mod shown;
 mod spread;
 mod stage;
@@ -66,7 +66,7 @@ pub use replica::out::ChangedRows;
 pub use replica::{Replica, Snapshot};
 pub use saved::Saved;
 pub use shown::Shown;
-pub use stage::Stage;
+pub(crate) use stage::Stage;
 pub use targets::Targets;
 
 #[cfg(test)]

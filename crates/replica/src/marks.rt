@@ -7,7 +7,7 @@ ghost use Rattle.replica.specs.Level.{AreAsMany, differences};
 use registers::{Rows, next_marked};
 
 /// Marks the rows that differ.
-pub fn mark_differences(old: &Rows, new: &Rows, marks: &mut [bool])
+pub(crate) fn mark_differences(old: &Rows, new: &Rows, marks: &mut [bool])
     requires { AreAsMany old.now new.now (length marks.old) }
     ensures { marks.new ≡ differences old.now.rows new.now.rows (length marks.old) }
 {
@@ -17,7 +17,7 @@ pub fn mark_differences(old: &Rows, new: &Rows, marks: &mut [bool])
 }
 
 /// No row is marked.
-pub fn clear_marks(marks: &mut [bool])
+pub(crate) fn clear_marks(marks: &mut [bool])
     ensures { (i : ℕ) → slice_index_or marks.new i false ≡ false }
 {
     for i in 0..marks.len() {
@@ -26,7 +26,7 @@ pub fn clear_marks(marks: &mut [bool])
 }
 
 /// The number of marks that are set.
-pub fn count_set(marks: &[bool]) -> usize
+pub(crate) fn count_set(marks: &[bool]) -> usize
     ensures value { result ≡ count_by (λ mark. mark) marks.now }
     ensures within { result ≤ length marks.now }
 {
@@ -34,7 +34,7 @@ pub fn count_set(marks: &[bool]) -> usize
 }
 
 /// Whether some mark is set.
-pub fn any_marked(marks: &[bool]) -> bool
+pub(crate) fn any_marked(marks: &[bool]) -> bool
     ensures { result ≡ list_any (λ mark. mark) marks.now }
 {
     next_marked(marks, 0) < marks.len()

@@ -107,15 +107,15 @@ fn pull_row(part: &Part, rows: &Rows, marks: &[bool], i: u32, row: &mut [u8]) ->
 
 /// The own rows, a mark for each, and the part that they are of: they are pulled by blocks that are halved so often.
 #[derive(Clone, Copy, Drop)]
-pub struct Pull<'a> {
-    pub part: &'a Part,
-    pub rows: &'a Rows,
-    pub marks: &'a [bool],
-    pub depth: u32,
+pub(crate) struct Pull<'a> {
+    pub(crate) part: &'a Part,
+    pub(crate) rows: &'a Rows,
+    pub(crate) marks: &'a [bool],
+    pub(crate) depth: u32,
 }
 
 /// The k-th of the rows from own vertex `from` on is pulled; the answer is whether it changed.
-pub fn pull_piece(pull: &Pull<'_>, from: usize, k: usize, cells: &mut [u8]) -> bool
+pub(crate) fn pull_piece(pull: &Pull<'_>, from: usize, k: usize, cells: &mut [u8]) -> bool
     requires within { k * pull.now.rows.now.width + pull.now.rows.now.width ≤ length cells.old }
     requires can { CanPullRow pull.now.part.now pull.now.rows.now pull.now.marks.now (from + k)
         (piece_at pull.now.rows.now.width k cells.old) }
@@ -131,7 +131,7 @@ pub fn pull_piece(pull: &Pull<'_>, from: usize, k: usize, cells: &mut [u8]) -> b
 }
 
 /// How many of the own vertices from `from` on, of which there are so many, have about half of their edges.
-pub fn middle(part: &Part, from: usize, count: usize) -> usize
+pub(crate) fn middle(part: &Part, from: usize, count: usize) -> usize
     requires { from + count ≤ length part.now.preds }
     ensures { result ≤ count }
 {

@@ -12,10 +12,10 @@ use std::alloc::{AllocError, Global};
 use std::marker::Model;
 use std::mem;
 use std::sync::Arc;
-pub use tallies::Tallies;
+pub(crate) use tallies::Tallies;
 
 /// A table of places that a [`Relay`] can hand out.
-pub trait Relayed: Sized + Drop {
+pub(crate) trait Relayed: Sized + Drop {
     /// How many places there are.
     ghost count: { Self → ℕ };
 
@@ -74,7 +74,7 @@ pub trait Relayed: Sized + Drop {
 /// If nothing is handed out it changes in place. Else it goes on in a second table: in the one shown before, once nobody
 /// else holds it, brought up where it changed since, and otherwise in room that was taken when the table was handed out.
 /// So [`Relay::share`] and [`Relay::copied`] take memory, calls in threads that of their threads, and no other call does.
-pub struct Relay<T: Relayed> {
+pub(crate) struct Relay<T: Relayed> {
     // what is shown, if nothing is handed out
     own: T,
     // what is shown, if it was handed out
@@ -130,7 +130,7 @@ impl<T: Relayed> Model for Shared<T> {
 
 /// A table that was handed out, and a mark for each place: what is shown differs from it at stale places alone.
 #[derive(Drop)]
-pub struct Behind<T: Relayed> {
+pub(crate) struct Behind<T: Relayed> {
     table: Arc<T>,
     stale: Vec<bool>,
 }
@@ -146,7 +146,7 @@ impl<T: Relayed> Model for Behind<T> {
 
 impl<T: Relayed> Relay<T> {
     /// A table that is not handed out.
-    pub fn new(table: T) -> Relay<T>
+    pub(crate) fn new(table: T) -> Relay<T>
         ensures { result ≡ table }
     {
         Relay {
@@ -158,7 +158,7 @@ impl<T: Relayed> Relay<T> {
     }
 
     /// The table.
-    pub fn get(&self) -> &T
+    pub(crate) fn get(&self) -> &T
         ensures { result.now ≡ self.now }
     {
         match &self.out {
@@ -168,7 +168,7 @@ impl<T: Relayed> Relay<T> {
     }
 
     /// The table becomes another one that is like it. It takes no memory.
-    pub fn assign(&mut self, other: &T)
+    pub(crate) fn assign(&mut self, other: &T)
         requires { T.are_alike self.old other.now }
         ensures { self.new ≡ other.now }
     {
@@ -184,7 +184,7 @@ impl<T: Relayed> Relay<T> {
 
     /// Gives back what it has kept for going on: the table shown before, room that is left over, and, if nobody else holds
     /// the table that was handed out, the room that was taken with it. The table stays as it is.
-    pub fn give_back(&mut self)
+    pub(crate) fn give_back(&mut self)
         ensures { self.new ≡ self.old }
     {
         drop(self.behind.take());
@@ -215,7 +215,7 @@ impl<T: Relayed> Relay<T> {
     }
 
     /// The table, handed out. The error is that memory was refused. Either way it is as it was.
-    pub fn share(&mut self, alloc: Global) -> Result<Arc<T>, AllocError>
+    pub(crate) fn share(&mut self, alloc: Global) -> Result<Arc<T>, AllocError>
         ensures same { self.new ≡ self.old }
         ensures shared { IfOk result (λ out. arc_value out ≡ self.old) }
     {
@@ -230,7 +230,7 @@ impl<T: Relayed> Relay<T> {
     /// way this one is as it was.
     ///
     /// It takes room for a table and a mark for each place, which is not touched unless the other one goes on.
-    pub fn copied(&mut self, alloc: Global) -> Result<Relay<T>, AllocError>
+    pub(crate) fn copied(&mut self, alloc: Global) -> Result<Relay<T>, AllocError>
         ensures same { self.new ≡ self.old }
         ensures copy { IfOk result (λ copy. copy ≡ self.old) }
     {
@@ -250,7 +250,7 @@ impl<T: Relayed> Relay<T> {
 impl<T: Relayed> Behind<T> {
     /// What the table was.
     #[inline]
-    pub fn table(&self) -> &T
+    pub(crate) fn table(&self) -> &T
         ensures { result.now ≡ self.now.table }
     {
         &self.table

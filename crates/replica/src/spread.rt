@@ -15,11 +15,11 @@ const BLOCK: usize = 8;
 
 /// The own rows, a mark for each, the part that they are of, and the index that says where they lead.
 #[derive(Clone, Copy, Drop)]
-pub struct Own<'a> {
-    pub targets: &'a Targets,
-    pub part: &'a Part,
-    pub rows: &'a Rows,
-    pub marks: &'a [bool],
+pub(crate) struct Own<'a> {
+    pub(crate) targets: &'a Targets,
+    pub(crate) part: &'a Part,
+    pub(crate) rows: &'a Rows,
+    pub(crate) marks: &'a [bool],
 }
 
 /// Spreads the row of vertex `z`: the accumulator of each own vertex that `z` has an edge to becomes the maximum of
@@ -28,7 +28,7 @@ pub struct Own<'a> {
 /// If the registers are the counter of `z`, which is changed at t, the accumulators of what was heard become those of
 /// what was heard and `z`. It takes no memory, and time in proportion to the edges of `z` into the part. Rows of a
 /// block that are wider than a line of the cache are glanced at first, so that they are fetched side by side.
-pub fn spread_row(
+pub(crate) fn spread_row(
     targets: &Targets,
     z: u32,
     registers: &[u8],
@@ -49,7 +49,12 @@ pub fn spread_row(
 ///
 /// If it is the true batch of source q at t, the accumulators of what was heard become those of what was heard and the
 /// vertices of q. It takes no memory, and time in proportion to the edges of its rows' vertices into the part.
-pub fn spread_batch(targets: &Targets, batch: &Batch, accumulated: &mut Rows, touched: &mut [bool])
+pub(crate) fn spread_batch(
+    targets: &Targets,
+    batch: &Batch,
+    accumulated: &mut Rows,
+    touched: &mut [bool],
+)
     requires { CanSpreadRows targets.now (2 ^ batch.now.plan.log2m) accumulated.old touched.old }
     ensures { SpreadsBatch targets.now batch.now accumulated.old accumulated.new
         touched.old touched.new }
@@ -70,7 +75,7 @@ pub fn spread_batch(targets: &Targets, batch: &Batch, accumulated: &mut Rows, to
 /// If the rows are the counters at t and the marks say which of them are changed there, the accumulators of what was
 /// heard become those of what was heard and the own vertices. It takes no memory, and time in proportion to the edges
 /// of the marked ones into the part; marks are passed over 64 at once if none is set.
-pub fn spread_own(own: &Own<'_>, accumulated: &mut Rows, touched: &mut [bool])
+pub(crate) fn spread_own(own: &Own<'_>, accumulated: &mut Rows, touched: &mut [bool])
     requires { CanSpreadOwn own.now.targets.now own.now.part.now own.now.rows.now
         own.now.marks.now accumulated.old touched.old }
     ensures { SpreadsOwn own.now.targets.now own.now.part.now own.now.rows.now.rows

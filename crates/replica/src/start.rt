@@ -13,7 +13,7 @@ use registers::Rows;
 use std::alloc::{AllocError, Global};
 
 /// How the estimates of the plan are made.
-pub fn estimator_of(alloc: Global, plan: &Plan) -> Result<Estimator, AllocError>
+pub(crate) fn estimator_of(alloc: Global, plan: &Plan) -> Result<Estimator, AllocError>
     ensures { IfOk result (λ e. e ≡ measure_of plan.now) }
 {
     let log2m = plan.log2m();
@@ -37,7 +37,7 @@ fn start_row(part: &Part, i: u32, rows: &mut Rows)
 }
 
 /// The registers that the vertices of the part begin with.
-pub fn start_rows(alloc: Global, part: &Part) -> Result<Rows, AllocError>
+pub(crate) fn start_rows(alloc: Global, part: &Part) -> Result<Rows, AllocError>
     ensures { IfOk result (λ rows. rows ≡
         record { width = 2 ^ part.now.plan.log2m; rows = first_rows_of_part part.now }) }
 {
@@ -50,7 +50,7 @@ pub fn start_rows(alloc: Global, part: &Part) -> Result<Rows, AllocError>
 }
 
 /// Which vertices of the part are changed at superstep 0: those that are counted.
-pub fn start_marks(alloc: Global, part: &Part) -> Result<Vec<bool>, AllocError>
+pub(crate) fn start_marks(alloc: Global, part: &Part) -> Result<Vec<bool>, AllocError>
     ensures { IfOk result (λ marks. marks.items ≡ part.now.counted) }
 {
     let mut marks = Vec::with_capacity(alloc, part.size() as usize)?;
@@ -61,7 +61,7 @@ pub fn start_marks(alloc: Global, part: &Part) -> Result<Vec<bool>, AllocError>
 }
 
 /// Figures that begin with the estimates of rows.
-pub fn start_tallies(
+pub(crate) fn start_tallies(
     alloc: Global,
     estimator: &Estimator,
     rows: &Rows,

@@ -175,7 +175,7 @@ fn step_blocks<R: Threads + Sync>(
 /// The figures of the rows ahead, as [`step_rows`] steps them, in several threads.
 ///
 /// It takes no memory but that of the threads, and time as the marks and the marked rows, over the processors.
-pub fn step_rows_by<R: Threads + Sync>(
+pub(crate) fn step_rows_by<R: Threads + Sync>(
     rt: &R,
     step: &Step<'_>,
     rows: &mut Relay<Rows>,

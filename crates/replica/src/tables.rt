@@ -25,7 +25,7 @@ use std::marker::Model;
 /// The rows of a superstep, which of them changed there, their figures, and the sums of their estimates at each
 /// superstep so far.
 #[derive(Drop)]
-pub struct Tables {
+pub(crate) struct Tables {
     rows: Relay<Rows>,
     marks: Vec<bool>,
     tallies: Relay<Tallies>,
@@ -47,7 +47,11 @@ impl Model for Tables {
 
 impl Tables {
     /// What a replica of the part begins with, with room for the sums of all supersteps.
-    pub fn start(alloc: Global, part: &Part, estimator: &Estimator) -> Result<Tables, AllocError>
+    pub(crate) fn start(
+        alloc: Global,
+        part: &Part,
+        estimator: &Estimator,
+    ) -> Result<Tables, AllocError>
         requires { estimator.now ≡ measure_of part.now.plan }
         ensures { IfOk result (AreFirst part.now) }
     {
@@ -61,7 +65,7 @@ impl Tables {
     }
 
     /// These, with a mark and figures for each row.
-    pub fn of(rows: Rows, marks: Vec<bool>, tallies: Vec<Tally>, sums: Vec<u128>) -> Tables
+    pub(crate) fn of(rows: Rows, marks: Vec<bool>, tallies: Vec<Tally>, sums: Vec<u128>) -> Tables
         requires marks { length marks.items ≡ length rows.rows }
         requires tallies { length tallies.items ≡ length rows.rows }
         ensures { result ≡ record {
@@ -82,7 +86,7 @@ impl Tables {
 
     /// The rows.
     #[inline]
-    pub fn rows(&self) -> &Rows
+    pub(crate) fn rows(&self) -> &Rows
         ensures { result.now ≡ self.now.rows }
     {
         self.rows.get()
@@ -90,7 +94,7 @@ impl Tables {
 
     /// Which of them changed.
     #[inline]
-    pub fn marks(&self) -> &[bool]
+    pub(crate) fn marks(&self) -> &[bool]
         ensures { result.now ≡ self.now.marks }
     {
         &self.marks
@@ -98,7 +102,7 @@ impl Tables {
 
     /// Their figures.
     #[inline]
-    pub fn tallies(&self) -> &[Tally]
+    pub(crate) fn tallies(&self) -> &[Tally]
         ensures { map value_of result.now ≡ self.now.tallies }
     {
         self.tallies.get().items()
@@ -106,7 +110,7 @@ impl Tables {
 
     /// The sum of their estimates at each superstep so far.
     #[inline]
-    pub fn sums(&self) -> &[u128]
+    pub(crate) fn sums(&self) -> &[u128]
         ensures { result.now ≡ self.now.sums }
     {
         &self.sums
@@ -114,7 +118,7 @@ impl Tables {
 
     /// For how many sums there is room.
     #[cfg(test)]
-    pub fn room(&self) -> usize
+    pub(crate) fn room(&self) -> usize
         ensures { result ≡ self.now.room }
     {
         self.sums.capacity()
@@ -122,7 +126,7 @@ impl Tables {
 
     /// Goes on from the superstep that is closed: what is accumulated of it becomes the rows, the figures and the sums
     /// follow, and nothing is heard yet. Weights are carried forward.
-    pub fn next<H: Hands>(
+    pub(crate) fn next<H: Hands>(
         &mut self,
         hands: &H,
         closing: &Closing<'_>,
@@ -151,14 +155,14 @@ impl Tables {
     }
 
     /// Whether so many rows changed that it takes less time to walk over all of them.
-    pub fn are_walked<H: Hands>(&self, hands: &H, part: &Part) -> bool {
+    pub(crate) fn are_walked<H: Hands>(&self, hands: &H, part: &Part) -> bool {
         hands.are_many(part.plan().parts(), self.rows().width(), self.marks())
     }
 
     /// Hears what changed in the own partition and goes on, as [`Hearing::hear_own`] and [`Tables::next`] do one after the
     /// other, in one walk: accumulators, which may be stale, are pulled, and figures follow. Then these are the
     /// rows, and what the rows were is kept in their place, stale.
-    pub fn walk<'a, H: Hands>(
+    pub(crate) fn walk<'a, H: Hands>(
         &mut self,
         hands: &H,
         part: &'a Part,
@@ -198,7 +202,7 @@ impl Tables {
     }
 
     /// A copy of the tables: rows and figures are shared, the rest is copied, with no room for later sums.
-    pub fn copied(&mut self, alloc: Global) -> Result<Tables, AllocError>
+    pub(crate) fn copied(&mut self, alloc: Global) -> Result<Tables, AllocError>
         ensures same { self.new ≡ self.old }
         ensures copy { IfOk result (λ t. t ≡ record self.old { room = t.room }) }
     {
@@ -215,7 +219,7 @@ impl Tables {
     }
 
     /// Gives back what rows and figures have kept for going on. They stay as they are.
-    pub fn give_back(&mut self)
+    pub(crate) fn give_back(&mut self)
         ensures { self.new ≡ self.old }
     {
         self.rows.give_back();
@@ -223,7 +227,7 @@ impl Tables {
     }
 
     /// They become those of another one, within the room that was taken for sums.
-    pub fn assign(&mut self, other: &Tables)
+    pub(crate) fn assign(&mut self, other: &Tables)
         requires { HasRoomFor other.now self.old }
         ensures { self.new ≡ record other.now { room = self.old.room } }
     {
@@ -235,7 +239,7 @@ impl Tables {
 }
 
 /// The sums become others, within the room that was taken for them.
-pub fn refill(sums: &mut Vec<u128>, others: &[u128])
+pub(crate) fn refill(sums: &mut Vec<u128>, others: &[u128])
     requires { length others.now ≤ vec_capacity sums.old }
     ensures { AreRefilled others.now sums.new.items (vec_capacity sums.old)
         (vec_capacity sums.new) }

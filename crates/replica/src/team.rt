@@ -43,16 +43,16 @@ const MOST_HALVINGS: u32 = 10;
 
 /// From which sizes on threads work on rows.
 #[derive(Clone, Copy, Drop)]
-pub struct Sizes {
+pub(crate) struct Sizes {
     /// Below so many bytes of registers that changed, and below as many rows as are many, no thread is started.
-    pub few: usize,
+    pub(crate) few: usize,
     /// From so many bytes of rows on there are more blocks than threads.
-    pub many: usize,
+    pub(crate) many: usize,
 }
 
 impl Sizes {
     /// Those from which on threads save more than they cost.
-    pub fn usual() -> Sizes {
+    pub(crate) fn usual() -> Sizes {
         Sizes {
             few: FEW,
             many: MANY,
@@ -61,7 +61,7 @@ impl Sizes {
 }
 
 /// Who works on a superstep. What comes of it is the same whoever does.
-pub trait Hands {
+pub(crate) trait Hands {
     /// They may work: threads may share what starts them.
     ghost ready: { Self → Type 0 };
 
@@ -116,7 +116,7 @@ pub trait Hands {
 
 /// The thread that asks, and no other.
 #[derive(Clone, Copy, Drop)]
-pub struct Alone;
+pub(crate) struct Alone;
 
 impl Hands for Alone {
     ghost ready = { λ hands. ⊤ };
@@ -165,10 +165,10 @@ impl Hands for Alone {
 ///
 /// A thread that cannot be started is done without; they take no memory but their own.
 #[derive(Drop)]
-pub struct Team<'a, R> {
-    pub rt: &'a R,
-    pub threads: usize,
-    pub sizes: Sizes,
+pub(crate) struct Team<'a, R> {
+    pub(crate) rt: &'a R,
+    pub(crate) threads: usize,
+    pub(crate) sizes: Sizes,
 }
 
 impl<'a, R: Threads + Sync> Hands for Team<'a, R> {

@@ -12,19 +12,19 @@ use std::marker::Model;
 /// What is sent, as vertices and the places of their rows among those that changed, and how many of the vertices so far
 /// changed.
 #[derive(Drop)]
-pub struct ToldVertices {
-    pub ids: Vec<u32>,
-    pub places: Vec<u32>,
-    pub changed: u32,
+pub(crate) struct ToldVertices {
+    pub(crate) ids: Vec<u32>,
+    pub(crate) places: Vec<u32>,
+    pub(crate) changed: u32,
 }
 
 /// What the partition `target` is sent: those of the vertices that changed that have an edge into it.
 #[derive(Drop)]
-pub struct Telling<'a> {
-    pub stage: &'a Stage,
+pub(crate) struct Telling<'a> {
+    pub(crate) stage: &'a Stage,
     // the places of the vertices that changed, ascending
-    pub vertices: &'a [u32],
-    pub target: u16,
+    pub(crate) vertices: &'a [u32],
+    pub(crate) target: u16,
 }
 
 impl<'a> Model for Telling<'a> {
@@ -43,7 +43,7 @@ impl<'a> Model for Telling<'a> {
 
 impl<'a> Telling<'a> {
     /// What is sent, with the places of the rows.
-    pub fn told(&self, alloc: Global) -> Result<ToldVertices, AllocError>
+    pub(crate) fn told(&self, alloc: Global) -> Result<ToldVertices, AllocError>
         ensures { IfOk result (λ told. IsTold self.now.state self.now.target
             (length self.now.state.part.preds) told.ids.items told.places.items told.changed) }
     {
@@ -60,7 +60,7 @@ impl<'a> Telling<'a> {
     }
 
     /// How many of the vertices are sent.
-    pub fn count(&self) -> u32 {
+    pub(crate) fn count(&self) -> u32 {
         let mut count = 0u32;
         for k in 0..self.vertices.len() {
             if self.feeds(k) {
@@ -71,7 +71,7 @@ impl<'a> Telling<'a> {
     }
 
     /// Adds to a batch with no rows those that are sent.
-    pub fn send_rows(&self, batch: &mut Batch) -> Result<(), AllocError>
+    pub(crate) fn send_rows(&self, batch: &mut Batch) -> Result<(), AllocError>
         requires { batch.old ≡ sent_batch self.now.state self.now.target 0 }
         ensures { OnOk result (batch.new ≡
             sent_batch self.now.state self.now.target (length self.now.state.part.preds)) }

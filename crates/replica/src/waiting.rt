@@ -105,7 +105,7 @@ fn add_edges(
 /// Spreads the own rows that are marked, as [`crate::spread::spread_own`] does, if rows are wider than a line of the
 /// cache: those that edges of several rows lead to are fetched side by side.
 #[inline(never)]
-pub fn spread_waiting(own: &Own<'_>, accumulated: &mut Rows, touched: &mut [bool])
+pub(crate) fn spread_waiting(own: &Own<'_>, accumulated: &mut Rows, touched: &mut [bool])
     requires { CanSpreadOwn own.now.targets.now own.now.part.now own.now.rows.now
         own.now.marks.now accumulated.old touched.old }
     ensures { SpreadsOwn own.now.targets.now own.now.part.now own.now.rows.now.rows

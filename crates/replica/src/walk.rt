@@ -21,12 +21,12 @@ use std::thread::{Threads, join_mut};
 
 /// How rows are pulled, and how figures come to superstep `t`.
 #[derive(Clone, Copy, Drop)]
-pub struct Walk<'a> {
-    pub pull: Pull<'a>,
-    pub estimator: &'a Estimator,
-    pub t: u32,
+pub(crate) struct Walk<'a> {
+    pub(crate) pull: Pull<'a>,
+    pub(crate) estimator: &'a Estimator,
+    pub(crate) t: u32,
     /// Whether the accumulators are still to become their rows, from which they differ where these are marked alone.
-    pub stale: bool,
+    pub(crate) stale: bool,
 }
 
 // The k-th of the rows from own vertex `from` on becomes the own row, if it is stale.
@@ -107,7 +107,7 @@ fn walk_row(
 }
 
 /// The rows from own vertex `from` on, one after the other; the answer is what the sum of the last estimates has gained.
-pub fn walk_block(
+pub(crate) fn walk_block(
     walk: &Walk<'_>,
     from: usize,
     cells: &mut [u8],
@@ -132,7 +132,7 @@ pub fn walk_block(
 
 /// Does what `walk_block` does, by halves of halves, each in a thread of its own if one can be made.
 #[cycle(halves)]
-pub fn walk_halves<R: Threads + Sync>(
+pub(crate) fn walk_halves<R: Threads + Sync>(
     rt: &R,
     walk: &Walk<'_>,
     from: usize,
@@ -222,7 +222,7 @@ fn walk_both<R: Threads + Sync>(
 /// estimates has gained.
 ///
 /// It takes no memory but that of threads, and time in proportion to the edges to own vertices, over the processors.
-pub fn walk_own<H: Hands>(
+pub(crate) fn walk_own<H: Hands>(
     hands: &H,
     walk: &Walk<'_>,
     accumulated: &mut Rows,

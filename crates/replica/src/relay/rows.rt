@@ -76,7 +76,7 @@ impl Relay<Rows> {
     /// It takes no time if nothing is handed out, and else time in proportion to the rows that were marked in the call
     /// before, and to the marks. If there is no table from before that one, or somebody still holds it, all rows are
     /// copied.
-    pub fn go_on(&mut self, ahead: &Rows, marks: &[bool]) -> Option<Behind<Rows>>
+    pub(crate) fn go_on(&mut self, ahead: &Rows, marks: &[bool]) -> Option<Behind<Rows>>
         requires { DifferWhere marks.now self.old ahead.now }
         ensures differ { DifferWhere marks.now self.new ahead.now }
         ensures before { IfSome result (λ b. b ≡ record { table = self.old; stale = marks.now }) }
@@ -96,7 +96,7 @@ impl Relay<Rows> {
 
     /// Row `i` becomes `row`. It takes no memory.
     #[inline]
-    pub fn put(&mut self, i: usize, row: &[u8])
+    pub(crate) fn put(&mut self, i: usize, row: &[u8])
         requires row { i < length self.old.rows }
         requires width { length row.now ≡ self.old.width }
         ensures { self.new ≡ record self.old { rows = slice_set self.old.rows i row.now } }
@@ -108,7 +108,7 @@ impl Relay<Rows> {
 
     /// All rows become those of `ahead`, from which they differ in marked rows alone, in 2^depth threads. It takes no
     /// memory but that of the threads, and time as the marks and the marked rows, over the processors.
-    pub fn put_marked<R: Threads + Sync>(
+    pub(crate) fn put_marked<R: Threads + Sync>(
         &mut self,
         rt: &R,
         depth: u32,
@@ -132,7 +132,7 @@ impl Relay<Rows> {
     /// The rows go on to those of `ahead`, from which they differ in marked rows alone, without a copy of one: `ahead`
     /// becomes a table that differs from them in marked rows alone. It takes no memory, and the time of [`Relay::go_on`]
     /// beside that of the marks.
-    pub fn change_places(&mut self, ahead: &mut Rows, marks: &[bool])
+    pub(crate) fn change_places(&mut self, ahead: &mut Rows, marks: &[bool])
         requires { DifferWhere marks.now self.old ahead.old }
         ensures rows { self.new ≡ ahead.old }
         ensures ahead { DifferWhere marks.now ahead.new self.new }
@@ -160,7 +160,7 @@ impl Relay<Rows> {
     }
 
     /// From now on what the rows were before they went on is kept as the table shown before.
-    pub fn leave_behind(&mut self, before: Option<Behind<Rows>>)
+    pub(crate) fn leave_behind(&mut self, before: Option<Behind<Rows>>)
         requires { IsRelay DifferWhere self.old before }
         ensures { self.new ≡ self.old }
     {

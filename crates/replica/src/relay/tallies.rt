@@ -23,7 +23,7 @@ use std::sync::Arc;
 
 /// The figures of rows.
 #[derive(Drop)]
-pub struct Tallies {
+pub(crate) struct Tallies {
     items: Vec<Tally>,
 }
 
@@ -39,7 +39,7 @@ impl Model for Tallies {
 
 impl Tallies {
     /// These figures.
-    pub fn of(items: Vec<Tally>) -> Tallies
+    pub(crate) fn of(items: Vec<Tally>) -> Tallies
         ensures { result ≡ map value_of items.items }
     {
         Tallies { items }
@@ -47,7 +47,7 @@ impl Tallies {
 
     /// The figures, one for each row.
     #[inline]
-    pub fn items(&self) -> &[Tally]
+    pub(crate) fn items(&self) -> &[Tally]
         ensures { map value_of result.now ≡ self.now }
     {
         self.items.as_slice()
@@ -165,7 +165,7 @@ impl Relay<Tallies> {
     /// They become the figures of the rows ahead, and the rows become these. It takes no memory but that of threads. If a
     /// table was handed out, those that changed since the one before it are copied too, and all of them if somebody still
     /// holds that one.
-    pub fn step<H: Hands>(
+    pub(crate) fn step<H: Hands>(
         &mut self,
         hands: &H,
         step: &Step<'_>,
@@ -191,7 +191,7 @@ impl Relay<Tallies> {
 
     /// They become the figures of what is accumulated as the own rows are pulled, as [`walk_own`] does it. It takes no
     /// memory but that of the threads, and copies what [`Relay::step`] does.
-    pub fn walk<H: Hands>(
+    pub(crate) fn walk<H: Hands>(
         &mut self,
         hands: &H,
         walk: &Walk<'_>,

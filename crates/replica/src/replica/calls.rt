@@ -56,7 +56,7 @@ impl Replica {
     /// proportion to the registers alone.
     ///
     /// The error is that memory was refused; the part and the index are dropped then.
-    pub fn with_targets(
+    pub(crate) fn with_targets(
         alloc: Global,
         part: Arc<Part>,
         targets: Targets,
