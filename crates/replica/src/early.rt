@@ -42,7 +42,7 @@ impl Model for Early {
 }
 
 impl Early {
-    /// Room for the batches of so many sources.
+    /// Room for the batches of `parts` sources.
     pub(crate) fn empty(alloc: Global, parts: u16) -> Result<Early, AllocError>
         ensures { IfOk result (IsEmptyTable parts) }
     {
@@ -65,7 +65,6 @@ impl Early {
         }
     }
 
-    /// How many batches are kept.
     pub(crate) fn count(&self) -> usize
         ensures { result ≡ length (kept_batches self.now) }
     {
@@ -82,7 +81,6 @@ impl Early {
         }
     }
 
-    /// Keeps the batch of a source.
     pub(crate) fn keep(&mut self, level: usize, source: u16, batch: Arc<Batch>)
         requires level { level < LEVELS }
         requires source { (parts : ℕ) → IsTable parts self.old → source < parts }
@@ -92,7 +90,7 @@ impl Early {
         put(&mut self.slots, place, batch);
     }
 
-    /// So many supersteps go, and the others come nearer.
+    /// `count` supersteps pass: their batches are dropped, and later ones come nearer.
     pub(crate) fn shift(&mut self, count: usize)
         requires { count ≤ LEVELS }
         ensures { ComesNearer count self.old self.new }
@@ -120,7 +118,6 @@ impl Early {
     }
 }
 
-// So many empty slots.
 fn empty_slots(alloc: Global, count: usize) -> Result<Vec<Option<Arc<Batch>>>, AllocError>
     ensures { IfOk result (λ slots. map (option_map arc_value) slots.items ≡ replicate count None) }
 {
@@ -131,7 +128,6 @@ fn empty_slots(alloc: Global, count: usize) -> Result<Vec<Option<Arc<Batch>>>, A
     Ok(slots)
 }
 
-// A batch comes into a slot.
 fn put(slots: &mut [Option<Arc<Batch>>], place: usize, batch: Arc<Batch>)
     requires { place < length slots.old }
     ensures { map (option_map arc_value) slots.new ≡
@@ -140,7 +136,7 @@ fn put(slots: &mut [Option<Arc<Batch>>], place: usize, batch: Arc<Batch>)
     slots[place] = Some(batch);
 }
 
-// The batches move so many places nearer, and the first ones go.
+// The batches move `count` places nearer, and the first ones are dropped.
 fn shift_slots(slots: &mut [Option<Arc<Batch>>], count: usize)
     requires { count ≤ length slots.old }
     ensures { map (option_map arc_value) slots.new ≡
@@ -150,7 +146,6 @@ fn shift_slots(slots: &mut [Option<Arc<Batch>>], count: usize)
     slots.rotate_left(count);
 }
 
-// Drops each batch.
 fn clear(slots: &mut [Option<Arc<Batch>>])
     ensures { map (option_map arc_value) slots.new ≡ replicate (length slots.old) None }
 {
@@ -196,7 +191,6 @@ fn share_slots(
     Ok(shared)
 }
 
-// The batch of a slot, shared, if there is one.
 fn share_one(slot: &Option<Arc<Batch>>) -> Result<Option<Arc<Batch>>, AllocError>
     ensures { IfOk result (λ shared. option_map arc_value shared ≡ option_map arc_value slot.now) }
 {

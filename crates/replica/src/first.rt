@@ -56,7 +56,7 @@ impl FirstTables {
         })
     }
 
-    /// These tables, made in two threads if so many may work and a second one can be started.
+    /// What [`FirstTables::of`] makes, in two threads if `threads` is at least 2 and a second one can be started.
     pub fn of_by<R: AllocGlobal + Threads + Sync>(
         rt: &R,
         part: &Part,
@@ -70,7 +70,6 @@ impl FirstTables {
         FirstTables::of_both(rt, part)
     }
 
-    // These tables, made in two threads.
     fn of_both<R: AllocGlobal + Threads + Sync>(
         rt: &R,
         part: &Part,

@@ -36,7 +36,7 @@ use std::mem;
 pub(crate) struct Hearing {
     // which sources are heard
     heard: SourceMask,
-    // whether one of them tells of a changed vertex
+    // whether one of them has a changed vertex
     change: bool,
     // the rows, raised by those of the sources that are heard; none if none is kept, since each equals its row
     accumulated: Rows,
@@ -61,7 +61,6 @@ impl Model for Hearing {
 }
 
 impl Hearing {
-    /// Nothing is heard, and what is accumulated are the rows.
     pub(crate) fn start(alloc: Global, rows: &Rows) -> Result<Hearing, AllocError>
         ensures { IfOk result (λ h. IsQuiet rows.now h) }
     {
@@ -81,7 +80,6 @@ impl Hearing {
         })
     }
 
-    /// This is heard and accumulated; those accumulators are marked that differ from their rows.
     pub(crate) fn of(
         heard: SourceMask,
         change: bool,
@@ -111,8 +109,8 @@ impl Hearing {
         Hearing::quiet(alloc, Rows::fixed(alloc, 0, rows.width() as u16)?)
     }
 
-    /// What is heard goes to the accumulators that are spare, or is lent with those that are kept here if none is. Nothing
-    /// is heard here then, and none is kept. The answer is whether those that are lent are stale.
+    /// What is heard goes to the accumulators that are spare, or is lent with those that are kept here if none is.
+    /// Nothing is heard here then, and none is kept. The answer is whether those that are lent are stale.
     pub(crate) fn lend(&mut self, spare: &mut Hearing) -> bool
         ensures { (rows : Table) (marks : List Bool) → IsSpare rows marks self.old spare.old →
             Lends rows marks self.old spare.old result self.new spare.new }
@@ -128,7 +126,6 @@ impl Hearing {
         true
     }
 
-    // Nothing is heard.
     fn forget(&mut self)
         ensures { self.new ≡
             record self.old { heard = replicate most_parts false; change = false } }
@@ -138,8 +135,8 @@ impl Hearing {
         *change = false;
     }
 
-    /// Accumulators that are spare are kept here again, each as its row is. It takes no memory but that of threads, and time
-    /// in proportion to the rows that are marked.
+    /// Accumulators that are spare are kept here again, each as its row is. It takes no memory but that of threads,
+    /// and time in proportion to the rows that are marked.
     pub(crate) fn take_back<H: Hands>(&mut self, hands: &H, spare: &mut Hearing, tables: &Tables)
         requires ready { H.ready hands.now }
         requires spare { IsSpare tables.now.rows tables.now.marks self.old spare.old }
@@ -151,7 +148,6 @@ impl Hearing {
         }
     }
 
-    // What is heard is heard beside the accumulators of another one, which are kept here then.
     fn exchange(&mut self, other: &mut Hearing)
         ensures own { self.new ≡
             record other.old { heard = self.old.heard; change = self.old.change } }
@@ -162,8 +158,8 @@ impl Hearing {
         mem::swap(self, other);
     }
 
-    /// The accumulators become the rows, without a copy of one: what was there before, which differs from these where they
-    /// are marked alone, is kept as accumulators that are stale.
+    /// The accumulators become the rows, without a copy of one: what was there before, which differs from these where
+    /// they are marked alone, is kept as accumulators that are stale.
     pub(crate) fn change_places(&mut self, rows: &mut Relay<Rows>, marks: &mut [bool])
         requires count { length marks.old ≡ length self.old.accumulated.rows }
         requires differ { DifferWhere self.old.touched rows.old self.old.accumulated }
@@ -175,14 +171,12 @@ impl Hearing {
         self.begin(marks);
     }
 
-    /// Which sources are heard.
     pub(crate) fn heard(&self) -> SourceMask
         ensures { result ≡ self.now.heard }
     {
         self.heard
     }
 
-    /// Whether one of them tells of a changed vertex.
     pub(crate) fn change(&self) -> bool
         ensures { result ≡ self.now.change }
     {
@@ -202,7 +196,6 @@ impl Hearing {
         }
     }
 
-    /// How many accumulators are kept.
     #[cfg(test)]
     pub(crate) fn count(&self) -> usize
         ensures { result ≡ length self.now.accumulated.rows }
@@ -221,8 +214,8 @@ impl Hearing {
         self.change |= batch.changed() != 0;
     }
 
-    /// Hears the batches that are kept of a superstep that has begun, the one after the next ones that passed. Only
-    /// those of later ones are left.
+    /// Hears the batches that are kept of a superstep that has begun, once `passed` others were skipped, and keeps
+    /// only those of later ones.
     pub(crate) fn hear_early(
         &mut self,
         targets: &Targets,
@@ -244,7 +237,7 @@ impl Hearing {
         early.shift(1);
     }
 
-    /// What is accumulated, a row each: what the rows become.
+    /// The accumulators, which the rows become.
     pub(crate) fn ahead(&self) -> &Rows
         ensures { result.now ≡ self.now.accumulated }
     {
@@ -272,8 +265,8 @@ impl Hearing {
         spread_own(&own, &mut self.accumulated, &mut self.touched);
     }
 
-    /// The own rows that changed are heard as [`Hearing::hear_own`] hears them, and figures become those of what is
-    /// accumulated then, in one walk. The answer is what the sum of the last estimates has gained.
+    /// Hears the own rows that changed, as [`Hearing::hear_own`] does, and figures become those of what is accumulated
+    /// then, in one walk. It returns what the sum of the last estimates has gained.
     pub(crate) fn hear_and_step<H: Hands>(
         &mut self,
         hands: &H,
@@ -305,8 +298,8 @@ impl Hearing {
         )
     }
 
-    /// Begins the next superstep, once what is accumulated has become the rows: those are marked that this has changed,
-    /// and nothing is heard yet.
+    /// Begins the next superstep, once the accumulators have become the rows: those that changed are marked, and
+    /// nothing is heard yet.
     pub(crate) fn begin(&mut self, marks: &mut [bool])
         requires { length marks.old ≡ length self.old.accumulated.rows }
         ensures { BeginsSuperstep self.old self.new marks.new }
@@ -400,7 +393,6 @@ impl Hearing {
     }
 }
 
-/// Which of the accumulators differ from their rows.
 pub(crate) fn differences(
     alloc: Global,
     rows: &Rows,
@@ -427,7 +419,6 @@ pub(crate) fn catch_up(rows: &mut Rows, ahead: &Rows, marks: &[bool])
     }
 }
 
-// A copy of the rows, in a buffer of its own.
 pub(crate) fn copy_rows(alloc: Global, rows: &Rows) -> Result<Rows, AllocError>
     ensures { IfOk result (λ copy. copy ≡ rows.now) }
 {

@@ -11,8 +11,8 @@ ghost use Rattle.replica.specs.Saved.{HadFits};
 /// snapshots of replicas of the same partition, a replica stands for what the calls make of its content, and each call
 /// answers what the content says. Its superstep is at most the end, and at most so many of the closes went on. Its
 /// verdict is stable exactly if its level is held, the superstep is not 0, and no vertex of the graph is changed; then
-/// each of its rows is the counter of all counted vertices that can reach its vertex. If its verdict is that the run is
-/// over, it is at the end.
+/// each of its rows is the counter of all counted vertices that can reach its vertex. If its verdict is that the run
+/// is over, it is at the end.
 pub fn end_to_end()
     ensures stands { RunStands }
     ensures answers { RunAnswersAsDue }

@@ -17,8 +17,8 @@ pub(crate) struct Closing<'a> {
     pub(crate) t: u32,
 }
 
-/// How figures come to superstep `t`: the rows ahead, from which the rows differ where they are marked, how estimates
-/// are made, and in how many threads it is done, as a power of 2, if it is done in several.
+/// How figures come to superstep `t`: how estimates are made, the rows ahead, from which the rows differ where they
+/// are marked alone, and into how many blocks they are cut if there are several, as a power of 2.
 #[derive(Clone, Copy, Drop)]
 pub(crate) struct Step<'a> {
     pub(crate) estimator: &'a Estimator,
@@ -28,8 +28,8 @@ pub(crate) struct Step<'a> {
     pub(crate) depth: u32,
 }
 
-/// The figures of the rows ahead; the answer is what the sum of the last estimates has gained. Weights are carried forward,
-/// figures of rows that did not change stay as they are, and the rows become those ahead.
+/// The figures become those of the rows ahead, and the rows these. Weights are carried forward, and only marked rows
+/// are read. It returns what the sum of the last estimates has gained.
 pub(crate) fn step_rows(
     step: &Step<'_>,
     rows: &mut Relay<Rows>,
@@ -74,7 +74,6 @@ fn step_marked(
     gain
 }
 
-// Row `i` as it was.
 #[inline]
 fn row_before<'a>(before: &'a Option<Behind<Rows>>, rows: &'a Relay<Rows>, i: usize) -> &'a [u8]
     requires { i < length (rows_before rows.now before.now).rows }
@@ -86,7 +85,7 @@ fn row_before<'a>(before: &'a Option<Behind<Rows>>, rows: &'a Relay<Rows>, i: us
     }
 }
 
-/// The figures of a row that has become the one ahead at superstep `t`; the answer is what its estimate has gained.
+/// The figures of a row become those of the one ahead at superstep `t`. It returns what the estimate has gained.
 #[inline(always)]
 pub(crate) fn step_tally(
     estimator: &Estimator,
@@ -106,7 +105,6 @@ pub(crate) fn step_tally(
     u128::from(tally.last - before)
 }
 
-/// The sum of the last estimates.
 pub(crate) fn sum_of_lasts(tallies: &[Tally]) -> u128
     ensures { result ≡ sum_by (λ tally. tally.last) tallies.now }
 {

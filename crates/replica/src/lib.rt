@@ -5,9 +5,9 @@
 //! has the batch of superstep t of every other partition, those without rows too. Then [`Shown::verdict`] says whether
 //! the run goes on, and [`Replica::close`] makes the rows of t + 1: each is raised by those of its predecessors that
 //! changed at t, and by no other, since an unchanged row has nothing new to say; [`Replica::close_by`] does so in
-//! several threads. [`Replica::out`] is what the partition tells another one of t ([`Replica::out_of`] tells the same
-//! over a table of the rows that changed, which all batches of t share), and [`Replica::take`] holds what it is sent.
-//! What a replica and a snapshot of it tell of what they have are the calls of one trait, [`Shown`].
+//! several threads. [`Replica::out`] is the batch of t for another partition ([`Replica::out_of`] is the same batch
+//! over a table of the rows that changed, which all batches of t share), and [`Replica::take`] holds a batch of
+//! another one. A replica and a snapshot of it are read by the calls of one trait, [`Shown`].
 //!
 //! What a replica stands for is a definition of `ball_model`: all that it has is what the definitions say of its
 //! superstep. Whatever a batch says, true or not, registers stay at most 33 and every figure fits its type.
@@ -21,9 +21,9 @@
 //! ```
 //!
 //! A replica that was lost, restarted or late takes over what another one of its partition knows: it merges a
-//! [`Snapshot`] of it ([`Replica::merge`]), or the two are joined. Then it is at the greater superstep of the two, with
-//! the rows and figures of that one, and holds each batch of its window that either held. What is taken over is true if
-//! both were.
+//! [`Snapshot`] of it ([`Replica::merge`]), or the two are joined. Then it is at the greater superstep of the two,
+//! with the rows and figures of that one, and holds each batch of its window that either held. What is taken over is
+//! true if both were.
 //!
 //! ```text
 //! let mut replica = Replica::new(alloc, part)?;      // superstep 0
@@ -34,8 +34,8 @@
 //! ```
 //!
 //! Only the making of [`Targets`], [`FirstTables`] and a [`Replica`], [`Replica::out`], [`Replica::changed_rows`],
-//! [`Replica::out_of`], [`Replica::snapshot`], [`Replica::merge`] and a join take memory, and [`Replica::close_by`] that
-//! of its threads.
+//! [`Replica::out_of`], [`Replica::snapshot`], [`Replica::merge`] and a join take memory, and [`Replica::close_by`]
+//! that of its threads.
 #![tactic(auto)]
 
 mod early;

@@ -6,7 +6,6 @@ ghost use Rattle.replica.specs.Level.{AreAsMany, differences};
 
 use registers::{Rows, next_marked};
 
-/// Marks the rows that differ.
 pub(crate) fn mark_differences(old: &Rows, new: &Rows, marks: &mut [bool])
     requires { AreAsMany old.now new.now (length marks.old) }
     ensures { marks.new ≡ differences old.now.rows new.now.rows (length marks.old) }
@@ -16,7 +15,6 @@ pub(crate) fn mark_differences(old: &Rows, new: &Rows, marks: &mut [bool])
     }
 }
 
-/// No row is marked.
 pub(crate) fn clear_marks(marks: &mut [bool])
     ensures { (i : ℕ) → slice_index_or marks.new i false ≡ false }
 {
@@ -25,7 +23,6 @@ pub(crate) fn clear_marks(marks: &mut [bool])
     }
 }
 
-/// The number of marks that are set.
 pub(crate) fn count_set(marks: &[bool]) -> usize
     ensures value { result ≡ count_by (λ mark. mark) marks.now }
     ensures within { result ≤ length marks.now }
@@ -33,7 +30,6 @@ pub(crate) fn count_set(marks: &[bool]) -> usize
     marks.iter().filter(|mark| **mark).count()
 }
 
-/// Whether some mark is set.
 pub(crate) fn any_marked(marks: &[bool]) -> bool
     ensures { result ≡ list_any (λ mark. mark) marks.now }
 {

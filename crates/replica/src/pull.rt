@@ -1,7 +1,7 @@
 //! Rows of own vertices, raised by those of their own predecessors that are marked.
 //!
-//! What [`crate::spread::spread_own`] does by the targets of each marked vertex is done here by the predecessors of each
-//! vertex: each accumulator is written by one thread alone, so that threads share nothing that is written.
+//! What [`crate::spread::spread_own`] does by the targets of each marked vertex is done here by the predecessors of
+//! each vertex: each accumulator is written by one thread alone, so that threads share nothing that is written.
 
 ghost use Rattle.std.specs.Prelude.{◌≡◌, ◌≢◌, ◌+◌, ◌*◌, ◌/◌, ◌%◌, ◌^◌, ◌<◌, ◌≤◌, IsTrue, length};
 ghost use Rattle.registers.specs.Shape.{piece_at};
@@ -28,7 +28,6 @@ fn placed(parts: u32, z: u32) -> (u32, u32)
     }
 }
 
-// Whether vertex `z` is of partition `own` and marked.
 #[inline(always)]
 fn is_told(parts: u32, own: u32, marks: &[bool], z: u32) -> bool
     requires { 0 < parts }
@@ -55,7 +54,7 @@ fn is_seen_raised(rows: &Rows, places: &[u32], row: &[u8]) -> bool
     seen
 }
 
-// A row becomes the maximum of itself and of those at these places, one after the other; the answer is whether it changed.
+// Raises a row by those at these places, one after the other, and returns whether it changed.
 fn raise_by_each(rows: &Rows, places: &[u32], row: &mut [u8]) -> bool
     requires { CanRaiseBy rows.now places.now row.old }
     ensures { RaisesBy rows.now.rows places.now row.old row.new result }
@@ -67,8 +66,8 @@ fn raise_by_each(rows: &Rows, places: &[u32], row: &mut [u8]) -> bool
     raised
 }
 
-// A row becomes the maximum of itself and of those at these places, of eight at once, or with a glance at all of fewer
-// first; the answer is whether it changed.
+// Raises a row by those at these places: by eight at once, or by fewer with a glance at all of them first. It returns
+// whether the row changed.
 fn raise_by(rows: &Rows, places: &[u32], row: &mut [u8]) -> bool
     requires { CanRaiseBy rows.now places.now row.old }
     ensures { RaisesBy rows.now.rows places.now row.old row.new result }
@@ -81,8 +80,7 @@ fn raise_by(rows: &Rows, places: &[u32], row: &mut [u8]) -> bool
     }
 }
 
-// The row of own vertex `i` becomes the maximum of itself and of the rows of its own predecessors that are marked; the
-// answer is whether it changed.
+// Raises the row of own vertex `i` by those of its own predecessors that are marked, and returns whether it changed.
 fn pull_row(part: &Part, rows: &Rows, marks: &[bool], i: u32, row: &mut [u8]) -> bool
     requires { CanPullRow part.now rows.now marks.now i row.old }
     ensures { PullsRow part.now rows.now.rows marks.now i row.old row.new result }
@@ -105,7 +103,7 @@ fn pull_row(part: &Part, rows: &Rows, marks: &[bool], i: u32, row: &mut [u8]) ->
     raised | raise_by(rows, &waiting[..count], row)
 }
 
-/// The own rows, a mark for each, and the part that they are of: they are pulled by blocks that are halved so often.
+/// The own rows, a mark for each, and their part. They are pulled in 2^depth blocks.
 #[derive(Clone, Copy, Drop)]
 pub(crate) struct Pull<'a> {
     pub(crate) part: &'a Part,
@@ -114,7 +112,7 @@ pub(crate) struct Pull<'a> {
     pub(crate) depth: u32,
 }
 
-/// The k-th of the rows from own vertex `from` on is pulled; the answer is whether it changed.
+/// Pulls the k-th of the rows from own vertex `from` on, and returns whether it changed.
 pub(crate) fn pull_piece(pull: &Pull<'_>, from: usize, k: usize, cells: &mut [u8]) -> bool
     requires within { k * pull.now.rows.now.width + pull.now.rows.now.width ≤ length cells.old }
     requires can { CanPullRow pull.now.part.now pull.now.rows.now pull.now.marks.now (from + k)
@@ -130,7 +128,7 @@ pub(crate) fn pull_piece(pull: &Pull<'_>, from: usize, k: usize, cells: &mut [u8
     pull_row(part, rows, marks, i, &mut cells[start..start + width])
 }
 
-/// How many of the own vertices from `from` on, of which there are so many, have about half of their edges.
+/// How many of the `count` own vertices from `from` on have about half of the edges of all of them.
 pub(crate) fn middle(part: &Part, from: usize, count: usize) -> usize
     requires { from + count ≤ length part.now.preds }
     ensures { result ≤ count }

@@ -31,10 +31,9 @@ pub(crate) trait Relayed: Sized + Drop {
     /// Room for a copy.
     type Room: Drop;
 
-    /// How much it is.
+    /// How large that room is.
     ghost size_of: { Self.Room → ℕ };
 
-    /// The number of places.
     fn places(&self) -> usize
         ensures { result ≡ count self.now };
 
@@ -71,9 +70,10 @@ pub(crate) trait Relayed: Sized + Drop {
 
 /// A table that can be handed out: what it becomes afterwards does not change what was handed out.
 ///
-/// If nothing is handed out it changes in place. Else it goes on in a second table: in the one shown before, once nobody
-/// else holds it, brought up where it changed since, and otherwise in room that was taken when the table was handed out.
-/// So [`Relay::share`] and [`Relay::copied`] take memory, calls in threads that of their threads, and no other call does.
+/// If nothing is handed out it changes in place. Else it goes on in a second table: in the one shown before, once
+/// nobody else holds it, brought up where it changed since, and otherwise in room that was taken when the table was
+/// handed out. So [`Relay::share`] and [`Relay::copied`] take memory, calls in threads that of their threads, and no
+/// other call does.
 pub(crate) struct Relay<T: Relayed> {
     // what is shown, if nothing is handed out
     own: T,
@@ -157,7 +157,6 @@ impl<T: Relayed> Relay<T> {
         }
     }
 
-    /// The table.
     pub(crate) fn get(&self) -> &T
         ensures { result.now ≡ self.now }
     {
@@ -182,8 +181,8 @@ impl<T: Relayed> Relay<T> {
         }
     }
 
-    /// Gives back what it has kept for going on: the table shown before, room that is left over, and, if nobody else holds
-    /// the table that was handed out, the room that was taken with it. The table stays as it is.
+    /// Gives back what it has kept for going on: the table shown before, room that is left over, and, if nobody else
+    /// holds the table that was handed out, the room that was taken with it.
     pub(crate) fn give_back(&mut self)
         ensures { self.new ≡ self.old }
     {
@@ -214,7 +213,7 @@ impl<T: Relayed> Relay<T> {
         Ok(())
     }
 
-    /// The table, handed out. The error is that memory was refused. Either way it is as it was.
+    /// The table, handed out. The error is that memory was refused.
     pub(crate) fn share(&mut self, alloc: Global) -> Result<Arc<T>, AllocError>
         ensures same { self.new ≡ self.old }
         ensures shared { IfOk result (λ out. arc_value out ≡ self.old) }
@@ -226,8 +225,7 @@ impl<T: Relayed> Relay<T> {
         }
     }
 
-    /// Another relay of the same table, which is shared with this one. The error is that memory was refused. Either
-    /// way this one is as it was.
+    /// Another relay of the same table, which the two share. The error is that memory was refused.
     ///
     /// It takes room for a table and a mark for each place, which is not touched unless the other one goes on.
     pub(crate) fn copied(&mut self, alloc: Global) -> Result<Relay<T>, AllocError>
@@ -248,7 +246,6 @@ impl<T: Relayed> Relay<T> {
 }
 
 impl<T: Relayed> Behind<T> {
-    /// What the table was.
     #[inline]
     pub(crate) fn table(&self) -> &T
         ensures { result.now ≡ self.now.table }
@@ -295,7 +292,6 @@ fn mark_all<T: Relayed>(behind: &mut Option<Behind<T>>, marks: &[bool])
     }
 }
 
-// What either marks is marked.
 fn add_marks(marks: &mut [bool], more: &[bool])
     requires { length marks.old ≡ length more.now }
     ensures { AreEither marks.old more.now marks.new }

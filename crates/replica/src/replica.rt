@@ -44,7 +44,7 @@ impl Shown for Snapshot {
 /// back that of the index, one of the two rows if they are equal, and what sharing the tables took.
 #[derive(Drop)]
 pub struct Replica {
-    // what it has at its superstep: what it tells, and what a snapshot copies, with room to go on
+    // what it has at its superstep, which a snapshot copies, with room to go on
     pub(crate) stage: Stage,
     targets: Targets,
     // how estimates are made

@@ -1,4 +1,4 @@
-//! What a checkpoint tells of a replica.
+//! What a checkpoint has of a replica.
 
 ghost use Rattle.std.specs.Prelude.{◌≡◌, ◌↔◌, ℕ, ◌+◌, ◌^◌, ◌<◌, ◌≤◌, map, length, slice_index_or, IsTrue};
 ghost use Rattle.std.specs.Arc.{arc_value};
@@ -21,7 +21,7 @@ use std::sync::Arc;
 // How far apart the keys of two supersteps are: there is one for each source that there may be.
 const SOURCES: u32 = MOST_PARTS as u32;
 
-/// What a replica has, beside its part: what a checkpoint tells of it.
+/// What a replica has beside its part, as a checkpoint keeps it.
 ///
 /// A replica is made of it by [`Replica::rebuild`](crate::Replica::rebuild), if it fits a part.
 #[derive(Drop)]
@@ -38,7 +38,7 @@ pub struct Saved {
     pub sums: Vec<u128>,
     /// Which sources of the superstep are heard.
     pub heard: SourceMask,
-    /// Whether one of these tells of a changed vertex.
+    /// Whether one of these has a changed vertex.
     pub heard_change: bool,
     /// The registers accumulated so far, a row for each vertex.
     pub accumulated: Rows,
@@ -119,7 +119,8 @@ fn are_counters(rows: &Rows, plan: &Plan) -> bool
     true
 }
 
-// Whether there is a sum for each superstep up to `t`, the last is the one given, and none is less than the one before.
+// Whether there is a sum for each superstep up to `t`, the last is the one given, and none is less than the one
+// before.
 fn are_sums(t: u32, last: u128, sums: &[u128]) -> bool
     ensures { IsTrue result ↔ AreSums t last sums.now }
 {

@@ -29,7 +29,7 @@ use batches::Batch;
 use figures::Tally;
 use registers::{Rows, SourceMask};
 
-/// What a replica and a snapshot of it tell of what they have. No call takes memory.
+/// How a replica and a snapshot of it are read. No call takes memory.
 pub trait Shown {
     /// What it has.
     ghost state: { Self → State };
@@ -64,7 +64,7 @@ pub trait Shown {
         s.superstep
     }
 
-    /// Does nothing. Its contract tells the limits that every replica keeps, whatever its batches say, for proofs.
+    /// Does nothing: its contract has the limits that every replica keeps, whatever its batches say, for proofs.
     final fn limits(&self)
         ensures state { IsState (state self.now) }
         ensures figures { All IsFigures (state self.now).tallies }
@@ -217,7 +217,7 @@ pub trait Shown {
         s.hearing.heard()
     }
 
-    /// Whether a source that is heard tells of a changed vertex.
+    /// Whether a source that is heard has a changed vertex.
     #[tactic(auto, using(crate::proofs::SeenLemmas::Read::change_stands))]
     final fn heard_change(&self) -> bool
         ensures value { result ≡ (state self.now).heard_change }

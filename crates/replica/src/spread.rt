@@ -112,8 +112,8 @@ fn spread_in_turn(own: &Own<'_>, accumulated: &mut Rows, touched: &mut [bool])
     }
 }
 
-// Marks the rows at these places that are seen at a glance to rise, if rows are wider than a line of the cache. So each
-// row that is marked here is one that spreading marks.
+// Marks the rows at these places that are seen at a glance to rise, if rows are wider than a line of the cache. So
+// each row that is marked here is one that spreading marks.
 fn mark_seen(places: &[u32], registers: &[u8], accumulated: &Rows, touched: &mut [bool])
     requires { CanRaise places.now registers.now accumulated.now touched.old }
     ensures { MarksBefore places.now registers.now accumulated.now.rows touched.old touched.new }

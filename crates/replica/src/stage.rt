@@ -18,17 +18,17 @@ use graph::Part;
 use std::marker::Model;
 use std::sync::Arc;
 
-/// What a replica or a snapshot has at a superstep. What it tells are the calls of [`Shown`].
+/// What a replica or a snapshot has at a superstep, as [`Shown`] reads it.
 ///
-/// If a replica has it there is room to go on: for a sum of each superstep up to the limit, and for an accumulator of
-/// each row until the run is over. A snapshot has no more than it tells.
+/// That of a replica has room to go on: for a sum of each superstep up to the limit, and for an accumulator of each
+/// row until the run is over. That of a snapshot has none.
 pub struct Stage {
     pub(crate) part: Arc<Part>,
     pub(crate) superstep: u32,
     pub(crate) tables: Tables,
     pub(crate) hearing: Hearing,
-    // accumulators that are stale, of which `hearing` keeps none then: they differ from the rows where these are marked
-    // alone
+    // accumulators that are stale, of which `hearing` keeps none then: they differ from the rows where these are
+    // marked alone
     pub(crate) spare: Hearing,
     pub(crate) early: Early,
 }
@@ -67,7 +67,6 @@ impl Shown for Stage {
     }
 }
 
-// Whether two plans are the same.
 pub(crate) fn is_same(a: &Plan, b: &Plan) -> bool
     ensures { result ≡ same_plan a.now b.now }
 {

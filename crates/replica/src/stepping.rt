@@ -12,7 +12,7 @@ use figures::Tally;
 use registers::{Rows, next_marked};
 use std::thread::{Threads, join_mut};
 
-// A step, with the rows as they were, which is done by blocks that are halved so often.
+// A step, with the rows as they were, in 2^depth blocks.
 #[derive(Clone, Copy, Drop)]
 struct Blocks<'a> {
     step: &'a Step<'a>,
@@ -27,7 +27,7 @@ struct Span<'a> {
     marks: &'a [bool],
 }
 
-// The figures and weights of the rows from place `from` on, one after the other; the answer is what the sum of the last
+// The figures and weights of the rows from place `from` on, one after the other. It returns what the sum of the last
 // estimates has gained.
 fn step_block(
     blocks: &Blocks<'_>,
@@ -174,7 +174,8 @@ fn step_blocks<R: Threads + Sync>(
 
 /// The figures of the rows ahead, as [`step_rows`] steps them, in several threads.
 ///
-/// It takes no memory but that of the threads, and time as the marks and the marked rows, over the processors.
+/// It takes no memory but that of the threads, and time in proportion to the marks and the marked rows, over the
+/// processors.
 pub(crate) fn step_rows_by<R: Threads + Sync>(
     rt: &R,
     step: &Step<'_>,

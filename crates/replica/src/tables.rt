@@ -64,7 +64,6 @@ impl Tables {
         Ok(Tables::of(rows, marks, tallies, sums))
     }
 
-    /// These, with a mark and figures for each row.
     pub(crate) fn of(rows: Rows, marks: Vec<bool>, tallies: Vec<Tally>, sums: Vec<u128>) -> Tables
         requires marks { length marks.items ≡ length rows.rows }
         requires tallies { length tallies.items ≡ length rows.rows }
@@ -84,7 +83,6 @@ impl Tables {
         }
     }
 
-    /// The rows.
     #[inline]
     pub(crate) fn rows(&self) -> &Rows
         ensures { result.now ≡ self.now.rows }
@@ -92,7 +90,6 @@ impl Tables {
         self.rows.get()
     }
 
-    /// Which of them changed.
     #[inline]
     pub(crate) fn marks(&self) -> &[bool]
         ensures { result.now ≡ self.now.marks }
@@ -100,7 +97,6 @@ impl Tables {
         &self.marks
     }
 
-    /// Their figures.
     #[inline]
     pub(crate) fn tallies(&self) -> &[Tally]
         ensures { map value_of result.now ≡ self.now.tallies }
@@ -108,7 +104,6 @@ impl Tables {
         self.tallies.get().items()
     }
 
-    /// The sum of their estimates at each superstep so far.
     #[inline]
     pub(crate) fn sums(&self) -> &[u128]
         ensures { result.now ≡ self.now.sums }
@@ -116,7 +111,6 @@ impl Tables {
         &self.sums
     }
 
-    /// For how many sums there is room.
     #[cfg(test)]
     pub(crate) fn room(&self) -> usize
         ensures { result ≡ self.now.room }
@@ -159,8 +153,8 @@ impl Tables {
         hands.are_many(part.plan().parts(), self.rows().width(), self.marks())
     }
 
-    /// Hears what changed in the own partition and goes on, as [`Hearing::hear_own`] and [`Tables::next`] do one after the
-    /// other, in one walk: accumulators, which may be stale, are pulled, and figures follow. Then these are the
+    /// Hears what changed in the own partition and goes on, as [`Hearing::hear_own`] and [`Tables::next`] do one after
+    /// the other, in one walk: accumulators, which may be stale, are pulled, and figures follow. Then these are the
     /// rows, and what the rows were is kept in their place, stale.
     pub(crate) fn walk<'a, H: Hands>(
         &mut self,
@@ -218,7 +212,7 @@ impl Tables {
         })
     }
 
-    /// Gives back what rows and figures have kept for going on. They stay as they are.
+    /// Gives back what rows and figures have kept for going on.
     pub(crate) fn give_back(&mut self)
         ensures { self.new ≡ self.old }
     {
@@ -226,7 +220,6 @@ impl Tables {
         self.tallies.give_back();
     }
 
-    /// They become those of another one, within the room that was taken for sums.
     pub(crate) fn assign(&mut self, other: &Tables)
         requires { HasRoomFor other.now self.old }
         ensures { self.new ≡ record other.now { room = self.old.room } }

@@ -17,16 +17,17 @@ use figures::Tally;
 use registers::{Rows, take_over};
 use std::thread::{Threads, available_parallelism};
 
-// Below so many bytes of registers that changed, and below as many rows as are many, threads cost more than they save.
+// Threads cost more than they save below this many bytes of registers that changed, and below as many rows as are
+// many.
 const FEW: usize = 1 << 23;
 
-// From so many bytes of rows on threads have blocks to choose from.
+// From this many bytes of rows on, threads have blocks to choose from.
 const MANY: usize = 1 << 24;
 
-// What is beside the registers of a row counts as so many bytes more.
+// What is beside the registers of a row counts as this many bytes.
 const BESIDE: usize = 64;
 
-// What an edge costs, in instructions: to decode it; to raise a row by another one, and three quarters of one for each
+// What an edge costs, in instructions: to decode it, and to raise a row by another one, beside three quarters of one a
 // register.
 const DECODE: usize = 45;
 
@@ -38,15 +39,15 @@ const BLOCKS: u32 = 2;
 // More threads than these are not counted, and there are no more blocks, of which each has a thread.
 const MOST_THREADS: usize = 1024;
 
-// How often rows are halved for so many.
+// How often rows are halved for that many.
 const MOST_HALVINGS: u32 = 10;
 
 /// From which sizes on threads work on rows.
 #[derive(Clone, Copy, Drop)]
 pub(crate) struct Sizes {
-    /// Below so many bytes of registers that changed, and below as many rows as are many, no thread is started.
+    /// Below this many bytes of registers that changed, and below as many rows as are many, no thread is started.
     pub(crate) few: usize,
-    /// From so many bytes of rows on there are more blocks than threads.
+    /// From this many bytes of rows on, there are more blocks than threads.
     pub(crate) many: usize,
 }
 
@@ -62,20 +63,20 @@ impl Sizes {
 
 /// Who works on a superstep. What comes of it is the same whoever does.
 pub(crate) trait Hands {
-    /// They may work: threads may share what starts them.
+    /// They may work: a team's threads may share its runtime.
     ghost ready: { Self → Type 0 };
 
     /// Whether so many rows are marked that it takes less time to pull all rows than to spread those.
     fn are_many(&self, parts: u16, width: usize, marks: &[bool]) -> bool
         requires { width < 2 ^ 16 };
 
-    /// How often rows of so many registers are halved, each half for a thread; 0 if so few are marked that threads cost
-    /// more than they save.
+    /// How often rows of `width` registers are halved, each block for a thread; 0 if so few are marked that threads
+    /// cost more than they save.
     fn halvings(&self, width: usize, marks: &[bool]) -> u32
         requires { width < 2 ^ 16 }
         ensures { result ≤ MOST_HALVINGS };
 
-    /// The rows become those of `ahead`, from which they differ in marked rows alone, in time as these.
+    /// Each marked row becomes that of `ahead`, from which no other one differs.
     fn take_over(&self, rows: &mut Rows, ahead: &Rows, marks: &[bool])
         requires ready { ready self.now }
         requires differ { DifferWhere marks.now rows.old ahead.now }
@@ -176,8 +177,8 @@ impl<'a, R: Threads + Sync> Hands for Team<'a, R> {
 
     ghost ready = { λ hands. IsSync R.row };
 
-    // To pull all rows each edge to an own vertex has to be decoded, of which about one in so many partitions is from an
-    // own one; and the rows are raised by all threads.
+    // To pull all rows each edge to an own vertex has to be decoded, of which about one in so many partitions is from
+    // an own one; and the rows are raised by all threads.
     fn are_many(&self, parts: u16, width: usize, marks: &[bool]) -> bool {
         let decode = DECODE * usize::from(parts.max(1));
         let gain = (self.threads.max(1) - 1).min(63) * (RAISE + width / 4 * 3) / decode;
@@ -237,14 +238,13 @@ fn halvings_of<R: Threads>(team: &Team<'_, R>, many: bool) -> u32
     halved.min(MOST_HALVINGS)
 }
 
-// How many rows of so many registers are many.
 fn many_rows(sizes: Sizes, width: usize) -> usize
     requires { width < 2 ^ 16 }
 {
     sizes.many / (width + BESIDE)
 }
 
-// How many rows of so many registers are worth threads.
+// How many rows are worth threads.
 fn least_rows(sizes: Sizes, width: usize) -> usize
     requires { width < 2 ^ 16 }
 {

@@ -9,8 +9,8 @@ use batches::Batch;
 use std::alloc::{AllocError, Global};
 use std::marker::Model;
 
-/// What is sent, as vertices and the places of their rows among those that changed, and how many of the vertices so far
-/// changed.
+/// What is sent, as vertices and the places of their rows among those that changed, and how many of the vertices so
+/// far changed.
 #[derive(Drop)]
 pub(crate) struct ToldVertices {
     pub(crate) ids: Vec<u32>,

@@ -1,6 +1,7 @@
 //! Own rows, spread along edges that wait: each edge leads from an own row to the place of an accumulator.
 //!
-//! The accumulators that edges of several rows lead to are glanced at side by side, before the first of them is raised.
+//! The accumulators that edges of several rows lead to are glanced at side by side, before the first of them is
+//! raised.
 
 ghost use Rattle.std.specs.Prelude.{◌≡◌, ◌∷◌, []};
 ghost use Rattle.replica.specs.Heard.{SpreadsOwn};

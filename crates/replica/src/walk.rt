@@ -1,5 +1,5 @@
-//! One walk over the own rows as a superstep is closed: each is pulled, and its figures follow at once, while it and the
-//! row before it are near.
+//! One walk over the own rows as a superstep is closed: each is pulled, and its figures follow at once, while it and
+//! the row before it are near.
 
 ghost use Rattle.std.specs.Prelude.{◌≡◌, ◌+◌, ◌*◌, ◌≤◌, not, length, map, IsTrue};
 ghost use Rattle.std.specs.Str.{bytes_eq};
@@ -50,8 +50,8 @@ fn renew_piece(walk: &Walk<'_>, from: usize, k: usize, cells: &mut [u8])
     }
 }
 
-// The k-th of the rows from own vertex `from` on is pulled, once it is the own row if it was stale; the answer is whether
-// it changed by being pulled.
+// Pulls the k-th of the rows from own vertex `from` on, once it is the own row if it was stale, and returns whether
+// this changed it.
 fn pull_fresh(walk: &Walk<'_>, from: usize, k: usize, cells: &mut [u8]) -> bool
     requires within { k * walk.now.pull.rows.now.width + walk.now.pull.rows.now.width
         ≤ length cells.old }
@@ -74,8 +74,8 @@ fn pull_fresh(walk: &Walk<'_>, from: usize, k: usize, cells: &mut [u8]) -> bool
     pull_piece(&walk.pull, from, k, cells)
 }
 
-// The k-th of the rows from own vertex `from` on is pulled. If it differs from the own row then, by this or by a batch, it
-// is marked and its figures follow; the answer is what its estimate has gained.
+// Pulls the k-th of the rows from own vertex `from` on. If it differs from the own row then, by this or by a batch, it
+// is marked and its figures follow. It returns what its estimate has gained.
 fn walk_row(
     walk: &Walk<'_>,
     from: usize,
@@ -106,7 +106,8 @@ fn walk_row(
     step_tally(walk.estimator, walk.t, row, ahead, weight, tally)
 }
 
-/// The rows from own vertex `from` on, one after the other; the answer is what the sum of the last estimates has gained.
+/// Walks over the rows from own vertex `from` on, one after the other, and returns what the sum of the last estimates
+/// has gained.
 pub(crate) fn walk_block(
     walk: &Walk<'_>,
     from: usize,
@@ -216,10 +217,10 @@ fn walk_both<R: Threads + Sync>(
     one + two
 }
 
-/// Walks over all own rows: each accumulator becomes the maximum of itself and of the rows of its own
-/// predecessors that are marked, as [`crate::spread::spread_own`] makes it, and the figures of those that differ from their
-/// rows then become those of superstep `t`. One that is stale becomes its row before. The answer is what the sum of the last
-/// estimates has gained.
+/// Walks over all own rows: each accumulator is raised by the rows of its own predecessors that are marked, which
+/// comes to what [`crate::spread::spread_own`] does, and the figures of those that differ from their rows then become
+/// those of superstep `t`. One that is stale becomes its row first. It returns what the sum of the last estimates has
+/// gained.
 ///
 /// It takes no memory but that of threads, and time in proportion to the edges to own vertices, over the processors.
 pub(crate) fn walk_own<H: Hands>(

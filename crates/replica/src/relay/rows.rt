@@ -94,7 +94,7 @@ impl Relay<Rows> {
         Some(Behind { table, stale })
     }
 
-    /// Row `i` becomes `row`. It takes no memory.
+    /// It takes no memory.
     #[inline]
     pub(crate) fn put(&mut self, i: usize, row: &[u8])
         requires row { i < length self.old.rows }
@@ -106,8 +106,8 @@ impl Relay<Rows> {
         mark_one(&mut self.behind, i);
     }
 
-    /// All rows become those of `ahead`, from which they differ in marked rows alone, in 2^depth threads. It takes no
-    /// memory but that of the threads, and time as the marks and the marked rows, over the processors.
+    /// Puts all marked rows, in 2^depth threads. It takes no memory but that of the threads, and time in proportion to
+    /// the marks and the marked rows, over the processors.
     pub(crate) fn put_marked<R: Threads + Sync>(
         &mut self,
         rt: &R,
@@ -130,8 +130,8 @@ impl Relay<Rows> {
     }
 
     /// The rows go on to those of `ahead`, from which they differ in marked rows alone, without a copy of one: `ahead`
-    /// becomes a table that differs from them in marked rows alone. It takes no memory, and the time of [`Relay::go_on`]
-    /// beside that of the marks.
+    /// becomes a table that differs from them in marked rows alone. It takes no memory, and the time of
+    /// [`Relay::go_on`] beside that of the marks.
     pub(crate) fn change_places(&mut self, ahead: &mut Rows, marks: &[bool])
         requires { DifferWhere marks.now self.old ahead.old }
         ensures rows { self.new ≡ ahead.old }
@@ -193,7 +193,6 @@ fn take_in(own: &mut Rows, out: &mut Option<Shared<Rows>>)
     }
 }
 
-// A copy of the rows, in their room.
 #[inline(never)]
 fn copy_of(out: Shared<Rows>) -> Rows
     ensures { result ≡ out }
@@ -215,8 +214,8 @@ fn mark_one(behind: &mut Option<Behind<Rows>>, i: usize)
     }
 }
 
-// The rows of `ahead` but in marked rows, and what room is left over: the table shown before is taken for them, if nobody
-// else holds it, and all rows are copied into the room otherwise.
+// The rows of `ahead` but in marked rows, and what room is left over: the table shown before is taken for them, if
+// nobody else holds it, and all rows are copied into the room otherwise.
 fn bring_up(
     behind: Option<Behind<Rows>>,
     room: Vec<u8>,
@@ -250,7 +249,7 @@ fn take_back(behind: Option<Behind<Rows>>, ahead: &Rows, marks: &[bool]) -> Opti
     }
 }
 
-// Each stale row that is not marked becomes that of `ahead`: a marked one is put later, and is not read twice.
+// Stale rows that are marked are put later, and are not read twice.
 fn catch_up(rows: &mut Rows, ahead: &Rows, stale: &[bool], marks: &[bool])
     requires { DifferWhereEither stale.now marks.now rows.old ahead.now }
     ensures { DifferWhere marks.now rows.new ahead.now }

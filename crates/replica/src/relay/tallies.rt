@@ -38,14 +38,12 @@ impl Model for Tallies {
 }
 
 impl Tallies {
-    /// These figures.
     pub(crate) fn of(items: Vec<Tally>) -> Tallies
         ensures { result ≡ map value_of items.items }
     {
         Tallies { items }
     }
 
-    /// The figures, one for each row.
     #[inline]
     pub(crate) fn items(&self) -> &[Tally]
         ensures { map value_of result.now ≡ self.now }
@@ -53,7 +51,6 @@ impl Tallies {
         self.items.as_slice()
     }
 
-    // They become the figures of the rows ahead, and the rows become these.
     fn step<H: Hands>(
         &mut self,
         hands: &H,
@@ -70,7 +67,6 @@ impl Tallies {
         hands.step(step, rows, weights, &mut self.items)
     }
 
-    // They become the figures of what is accumulated as the own rows are pulled.
     fn walk<H: Hands>(
         &mut self,
         hands: &H,
@@ -94,7 +90,6 @@ impl Tallies {
         walk_own(hands, walk, accumulated, touched, weights, &mut self.items)
     }
 
-    // Each stale one becomes that of `ahead`, which are as many, and from which no other one differs.
     fn follow(&mut self, ahead: &Tallies, stale: &[bool])
         requires { DifferAt stale.now self.old ahead.now }
         ensures { self.new ≡ ahead.now }
@@ -162,9 +157,9 @@ impl Relayed for Tallies {
 }
 
 impl Relay<Tallies> {
-    /// They become the figures of the rows ahead, and the rows become these. It takes no memory but that of threads. If a
-    /// table was handed out, those that changed since the one before it are copied too, and all of them if somebody still
-    /// holds that one.
+    /// They become the figures of the rows ahead, and the rows become these. It takes no memory but that of threads.
+    /// If a table was handed out, those that changed since the one before it are copied too, and all of them if
+    /// somebody still holds that one.
     pub(crate) fn step<H: Hands>(
         &mut self,
         hands: &H,
@@ -241,7 +236,7 @@ fn go_on(
     leave(behind, left, marks);
 }
 
-// What is shown is in the own table; the answer is what was handed out.
+// What is shown is in the own table. It returns what was handed out.
 fn take_up(
     own: &mut Tallies,
     out: Option<Shared<Tallies>>,
@@ -282,8 +277,8 @@ fn leave(behind: &mut Option<Behind<Tallies>>, left: Option<Left>, marks: &[bool
     }
 }
 
-// The own table becomes what is shown: the table shown before is taken for that, if nobody else holds it, and otherwise
-// a copy in the room.
+// The own table becomes what is shown: the table shown before is taken for that, if nobody else holds it, and
+// otherwise a copy in the room.
 fn bring_up(
     own: &mut Tallies,
     behind: Option<Behind<Tallies>>,
@@ -306,7 +301,6 @@ fn bring_up(
     *own = shown.copy_in(room);
 }
 
-// Each stale tally becomes that of `ahead`, which are as many, and from which no other one differs.
 fn follow(tallies: &mut [Tally], ahead: &[Tally], stale: &[bool])
     requires { DifferAt stale.now (map value_of tallies.old) (map value_of ahead.now) }
     ensures { map value_of tallies.new ≡ map value_of ahead.now }

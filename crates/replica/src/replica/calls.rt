@@ -133,9 +133,9 @@ impl Replica {
     /// In this order: [`OtherJob`](TakeError::OtherJob) if the plan is another, [`NotMine`](TakeError::NotMine) if the
     /// target is, [`OwnPartition`](TakeError::OwnPartition) if the source is the replica's own partition;
     /// [`Old`](Taken::Old) below its superstep, [`Known`](Taken::Known) if it is held,
-    /// [`TooEarly`](TakeError::TooEarly) more than three supersteps ahead, else [`New`](Taken::New). New adds the batch
-    /// alone; every other answer changes nothing. A batch of the superstep is merged and dropped, in time in proportion
-    /// to the registers of the edges from its vertices into the partition; a later one is kept.
+    /// [`TooEarly`](TakeError::TooEarly) more than three supersteps ahead, else [`New`](Taken::New). New adds the
+    /// batch alone; every other answer changes nothing. A batch of the superstep is merged and dropped, in time in
+    /// proportion to the registers of the edges from its vertices into the partition; a later one is kept.
     pub fn take(&mut self, batch: Arc<Batch>) -> Result<Taken, TakeError>
         ensures answer { result ≡ take_answer self.old (arc_value batch) }
         ensures names { HoldsAfter (is_new result) (arc_value batch).name self.old self.new }
@@ -158,7 +158,8 @@ impl Replica {
         }
     }
 
-    /// Goes on to the next superstep and answers it. It takes no memory, and waits for nobody.
+    /// Closes the superstep and returns the next one, at which the replica is then. It takes no memory, and waits for
+    /// nobody.
     ///
     /// [`Waiting`](CloseError::Waiting) if a batch of the level is missing, for the least such source, then
     /// [`Finished`](CloseError::Finished) if the verdict is Stable or Limit; an error changes nothing. Batches of the
@@ -190,13 +191,14 @@ impl Replica {
             .close_level(&Alone, &self.targets, &self.estimator, &mut self.weights)
     }
 
-    /// Closes the superstep as [`Replica::close`] does, in so many threads, or the next power of 2 below. If many vertices
-    /// changed, each accumulator is raised by the rows of its own predecessors ("pulled") by one thread, and the figures of
-    /// its vertex follow at once, so that threads share nothing that is written. If these are as many as the processors, or
-    /// more, up to four times as many work, since parts of the work take unequal times.
+    /// Closes the superstep as [`Replica::close`] does, in `threads` threads, or the next power of 2 below. If many
+    /// vertices changed, each accumulator is raised by the rows of its own predecessors ("pulled") by one thread, and
+    /// the figures of its vertex follow at once, so that threads share nothing that is written. If `threads` is at
+    /// least the number of processors, up to four times as many are started, since parts of the work take unequal
+    /// times.
     ///
-    /// Errors are those of `close`. It takes no memory but that of its threads, which it joins; a thread that cannot be
-    /// started is done without. It takes the time of `close`, over the processors if many vertices changed.
+    /// Errors are those of `close`. It takes no memory but that of its threads, which it joins; a thread that cannot
+    /// be started is done without. It takes the time of `close`, over the processors if many vertices changed.
     pub fn close_by<R: Threads + Sync>(&mut self, rt: &R, threads: usize) -> Result<u32, CloseError>
         ensures waits { (q : ℕ) →
             (result ≡ Err (waits.Waiting q)) ↔ (missing_in self.old ≡ Some q) }
@@ -232,10 +234,10 @@ impl Replica {
             .close_level(team, &self.targets, &self.estimator, &mut self.weights)
     }
 
-    /// Gives back the memory that a run that is over needs no more: that of the index, that of the accumulators if each
-    /// equals its row, and what sharing the tables took (but room taken with a table that somebody still holds). If the
-    /// run is not over it does nothing. What the replica has stays as it is, and only a merge, a join or a snapshot may
-    /// take memory again.
+    /// Gives back the memory that a run that is over needs no more: that of the index, that of the accumulators if
+    /// each equals its row, and what sharing the tables took (but room taken with a table that somebody still holds).
+    /// If the run is not over it does nothing. What the replica has stays as it is, and only a merge, a join or a
+    /// snapshot may take memory again.
     pub fn give_back(&mut self)
         ensures { self.new ≡ self.old }
     {
@@ -297,8 +299,8 @@ impl Replica {
     /// What the replica has now.
     ///
     /// Rows, figures, batches and the part are shared; a mark for each vertex and the sums so far are copied, and if
-    /// what is heard has raised a row, the accumulators. Room for a table of rows and one of figures is taken, in which
-    /// the replica goes on while somebody holds this one. The error is that memory was refused.
+    /// what is heard has raised a row, the accumulators. Room for a table of rows and one of figures is taken, in
+    /// which the replica goes on while somebody holds this one. The error is that memory was refused.
     pub fn snapshot(&mut self, alloc: Global) -> Result<Snapshot, AllocError>
         ensures same { IfOk result (λ s. s ≡ self.old) }
         ensures stands { IfOk result (λ s. (j : Job) (p t : ℕ) → StandsFor j p t self.old →

@@ -1,4 +1,4 @@
-//! What a replica tells the other partitions.
+//! What a replica sends to the other partitions.
 
 ghost use Rattle.std.specs.Prelude.{◌≡◌, ◌≢◌, ℕ, ◌<◌, [], length, IfOk, OnOk};
 ghost use Rattle.std.specs.Arc.{arc_value};
@@ -48,7 +48,7 @@ impl ChangedRows {
 }
 
 impl Replica {
-    /// What the partition tells another one, `target`, of this superstep.
+    /// The batch of this superstep for another partition, `target`.
     ///
     /// The batch has the registers of each vertex that changed and has an edge into the target, ascending, and the
     /// number of all vertices that changed. It is to be sent even if it has no rows: a level is held only with it.
@@ -97,9 +97,9 @@ impl Replica {
         })
     }
 
-    /// What [`Replica::out`] tells `target`, with its registers in the table of those that changed, which all batches of
-    /// the superstep share: it takes memory for a vertex and a place a row, and copies no register. Of the vertices it
-    /// looks at those alone that changed.
+    /// The batch of [`Replica::out`], with its registers in the table of those that changed, which all batches of the
+    /// superstep share: it takes memory for a vertex and a place a row, and copies no register. It looks only at
+    /// vertices that changed.
     pub fn out_of(
         &self,
         alloc: Global,

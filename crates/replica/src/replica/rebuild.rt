@@ -1,4 +1,4 @@
-//! A replica, made of what a checkpoint tells.
+//! A replica, made of what a checkpoint has.
 
 ghost use Rattle.std.specs.Prelude.{◌≡◌, map, IfOk};
 ghost use Rattle.std.specs.Arc.{arc_value};

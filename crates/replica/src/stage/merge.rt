@@ -49,7 +49,7 @@ impl Stage {
         Ok(())
     }
 
-    // Keeps an accumulator of each row, whether the run is over or not. An error changes nothing that it tells.
+    // Keeps an accumulator of each row, whether the run is over or not.
     fn keep_all(&mut self, alloc: Global) -> Result<(), AllocError>
         requires { CanGoOn self.old }
         ensures same { self.new.state ≡ self.old.state }

@@ -24,7 +24,6 @@ impl Stage {
         (x / u32::from(self.part.plan().parts())) as usize
     }
 
-    /// Whether the batch of a superstep and a source is held.
     pub(crate) fn holds_from(&self, superstep: u32, source: u16) -> bool
         ensures { result ≡ (content_of self.now.state).holds superstep source }
     {

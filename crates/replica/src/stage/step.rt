@@ -21,7 +21,6 @@ use figures::Estimator;
 use std::sync::Arc;
 
 impl Stage {
-    /// The answer to a batch.
     pub(crate) fn answer(&self, batch: &Batch) -> Result<Taken, TakeError>
         ensures { result ≡ take_answer self.now.state batch.now }
     {
@@ -66,7 +65,7 @@ impl Stage {
         }
     }
 
-    /// Closes the superstep, as what the replica has says. Weights are carried forward.
+    /// Closes the superstep, unless the level is not held or the run is over. Weights are carried forward.
     pub(crate) fn close_level<H: Hands>(
         &mut self,
         hands: &H,
@@ -95,8 +94,8 @@ impl Stage {
         }
     }
 
-    /// Drops what only going on needs: what the tables have kept for it, and the accumulators if the run is over and each
-    /// of them equals its row.
+    /// Drops what only going on needs: what the tables have kept for it, and the accumulators if the run is over and
+    /// each of them equals its row.
     pub(crate) fn let_go(&mut self)
         requires { CanLetGo self.old }
         ensures { StaysSame self.old self.new }
@@ -107,7 +106,6 @@ impl Stage {
         self.hearing.let_go();
     }
 
-    /// Whether the run is over.
     pub(crate) fn is_over(&self) -> bool
         ensures { result ≡ is_over self.now.state }
     {
@@ -120,7 +118,7 @@ impl Stage {
         }
     }
 
-    // One superstep more.
+    // If many rows changed, a team walks over all of them.
     fn advance<H: Hands>(
         &mut self,
         hands: &H,
@@ -140,8 +138,8 @@ impl Stage {
         }
     }
 
-    // One superstep more: what changed in the own partition is heard too, what was accumulated becomes the rows, and
-    // the batches of the new superstep are heard.
+    // What changed in the own partition is heard too, what was accumulated becomes the rows, and the batches of the
+    // new superstep are heard.
     fn spread_on<H: Hands>(
         &mut self,
         hands: &H,

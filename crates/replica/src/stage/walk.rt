@@ -12,8 +12,8 @@ use crate::team::Hands;
 use figures::Estimator;
 
 impl Stage {
-    /// One superstep more, as `spread_on`, in one walk, after which the accumulators are stale. If there are other
-    /// partitions, whose batches are to be heard, they are taken back at once.
+    /// Does what `spread_on` does, in one walk, after which the accumulators are stale. If there are other partitions,
+    /// whose batches are to be heard, they are taken back at once.
     pub(crate) fn walk_on<H: Hands>(
         &mut self,
         hands: &H,

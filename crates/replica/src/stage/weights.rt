@@ -11,7 +11,6 @@ use figures::weight;
 use registers::Rows;
 
 impl Stage {
-    /// The weight of each of its rows, in place of those of others, within the room that was taken for them.
     pub(crate) fn weigh_again(&self, weights: &mut Vec<u64>)
         requires { length self.now.state.part.preds ≤ vec_capacity weights.old }
         ensures { weights.new.items ≡ weights_of self.now.state.rows }

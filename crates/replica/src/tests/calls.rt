@@ -38,8 +38,8 @@ pub fn answer_to(
     answer(rt, all, to, batch)
 }
 
-/// Whether one replica takes as new what another one tells it: at once, or when it is given that again after memory was
-/// refused.
+/// Whether one replica takes as new what another one tells it: at once, or when it is given that again after memory
+/// was refused.
 pub fn is_new(rt: &HostRuntime, all: &mut [Replica], from: usize, to: usize) -> bool {
     let partition = match all.get(to) {
         Some(replica) => replica.partition(),

@@ -35,8 +35,8 @@ const AHEAD: [Step; 22] = [
     See(0, Row(2, ROW_ABC)),
 ];
 
-/// What is kept is shown by superstep, then by source, and without the batch of the replica's own superstep; a snapshot
-/// tells the same.
+/// What is kept is shown by superstep, then by source, and without the batch of the replica's own superstep; a
+/// snapshot tells the same.
 const LATER: [Step; 7] = [
     Add(Job {
         parts: 3,

@@ -8,8 +8,9 @@ use super::script::play_all;
 use super::snapshots::HELD_ON;
 use super::*;
 
-/// Two runs of two edges, by replicas 0 and 1, and 2 and 3. The first has partition 0 at superstep 1, with the batch of
-/// superstep 2 alone; the other has it at superstep 0, with the batches of superstep 0 and, with a row, of superstep 1.
+/// Two runs of two edges, by replicas 0 and 1, and 2 and 3. The first has partition 0 at superstep 1, with the batch
+/// of superstep 2 alone; the other has it at superstep 0, with the batches of superstep 0 and, with a row, of
+/// superstep 1.
 pub const APART: [Step; 9] = [
     Add(TWO_EDGES),
     Add(TWO_EDGES),
@@ -205,8 +206,8 @@ const STAYS: [Step; 4] = [
 
 const SNAPSHOT: [&[Step]; 2] = [&HELD, &STAYS];
 
-/// Scripts, each with replicas of its own: who recovers when it is behind or ahead, by a merge and by a join; runs that
-/// are over; equal supersteps with different names; snapshots of another job and of another partition, which are
+/// Scripts, each with replicas of its own: who recovers when it is behind or ahead, by a merge and by a join; runs
+/// that are over; equal supersteps with different names; snapshots of another job and of another partition, which are
 /// refused, and one that tells its content; and those of the other files.
 static CASES: [&[&[Step]]; 11] = [
     &RECOVERS_BEHIND,

@@ -130,7 +130,8 @@ const LIMITED: [Step; 9] = [
 ];
 
 /// Nine vertices, 0 to 8, and the edges 1 to 3, 2 to 6, 0 to 5, 3 to 4 and 6 to 5. Of partition 0 of three vertices 3
-/// and 6 change at superstep 1 and 0 does not; then 3 has an edge into partition 1 alone, and 6 into partition 2 alone.
+/// and 6 change at superstep 1 and 0 does not; then 3 has an edge into partition 1 alone, and 6 into partition 2
+/// alone.
 const SHARED: [Step; 3] = [
     Add(Job {
         text: b"a\nb\nc\nd\ne\nf\ng\nh\ni\nb\td\nc\tg\na\tf\nd\te\ng\tf\n",
@@ -155,8 +156,8 @@ const ABSORBED: [Step; 6] = [
     See(1, Row(5, [0, 0, 0, 0, 0, 3, 2, 0, 0, 0, 0, 0, 0, 0, 0, 0])),
 ];
 
-/// Two edges, with vertex 0 alone counted. One that is not has empty registers, and is not changed; at the end each has
-/// seen vertex 0, one superstep after the other.
+/// Two edges, with vertex 0 alone counted. One that is not has empty registers, and is not changed; at the end each
+/// has seen vertex 0, one superstep after the other.
 const COUNTED: [Step; 19] = [
     Add(Job {
         counted: Some(b"a"),
@@ -182,8 +183,8 @@ const COUNTED: [Step; 19] = [
     See(0, Figures(2, (11_390_942, 311_471, 1_245_884))),
 ];
 
-/// Two edges whose estimates are corrected for small sets: one, two and three of 16 places are taken after 16/16, 16/15
-/// and 16/14 draws more.
+/// Two edges whose estimates are corrected for small sets: one, two and three of 16 places are taken after 16/16,
+/// 16/15 and 16/14 draws more.
 const CORRECTED: [Step; 6] = [
     Add(Job {
         is_corrected: true,

@@ -1,6 +1,6 @@
-//! Supersteps of graphs of a dozen vertices, closed by teams that start threads at any size: rows are cut into blocks, of
-//! which some have one row or none. What is to come of them is said vertex by vertex: its row becomes the maximum of
-//! itself and of the rows of its predecessors, and its figures follow.
+//! Supersteps of graphs of a dozen vertices, closed by teams that start threads at any size: rows are cut into blocks,
+//! of which some have one row or none. What is to come of them is said vertex by vertex: its row becomes the maximum
+//! of itself and of the rows of its predecessors, and its figures follow.
 
 use super::calls::exchange;
 use super::jobs::{begun, graph};
@@ -14,7 +14,8 @@ use std::thread::Threads;
 const HUB: &[u8] =
     b"b\ta\nc\ta\nd\ta\ne\ta\nf\ta\ng\ta\nh\ta\ni\ta\nj\ta\nk\ta\na\tc\nb\tc\nc\td\nk\tj\n";
 
-/// A ring of twelve, of which each also links to the one three further: each superstep changes every row up to the fourth.
+/// A ring of twelve, of which each also links to the one three further: each superstep changes every row up to the
+/// fourth.
 const RING: &[u8] = b"a\tb\nb\tc\nc\td\nd\te\ne\tf\nf\tg\ng\th\nh\ti\ni\tj\nj\tk\nk\tl\nl\ta\n\
 a\td\nb\te\nc\tf\nd\tg\ne\th\nf\ti\ng\tj\nh\tk\ni\tl\nj\ta\nk\tb\nl\tc\n";
 
@@ -84,8 +85,8 @@ fn level_of(alloc: Global, all: &[Replica], vertices: u32) -> Option<Level> {
     })
 }
 
-/// Whether a vertex shows what it has to, one superstep after a level: its row, what is accumulated for it, its figures, and
-/// whether it changed; and the estimate of its row.
+/// Whether a vertex shows what it has to, one superstep after a level: its row, what is accumulated for it, its
+/// figures, and whether it changed; and the estimate of its row.
 fn is_next(
     alloc: Global,
     graph: &Graph,
@@ -161,9 +162,9 @@ fn replicas<R: AllocGlobal + Threads + Sync>(
     Some(all)
 }
 
-/// What is done beside closing: nothing; a snapshot of each replica is held as it closes; it is merged then, though it has
-/// nothing new to tell; each replica is one that took over a snapshot of the one before; every other superstep is closed by
-/// one thread.
+/// What is done beside closing: nothing; a snapshot of each replica is held as it closes; it is merged then, though it
+/// has nothing new to tell; each replica is one that took over a snapshot of the one before; every other superstep is
+/// closed by one thread.
 #[derive(Clone, Copy)]
 enum Beside {
     Nothing,
@@ -305,8 +306,8 @@ fn goes_on_by_teams<R: AllocGlobal + Threads + Sync>(
     Some(right)
 }
 
-/// Whether it does so in one, two and three partitions, at 256 registers, and at 16, where two threads spread rows and step
-/// figures block by block.
+/// Whether it does so in one, two and three partitions, at 256 registers, and at 16, where two threads spread rows and
+/// step figures block by block.
 fn goes_on_in_parts<R: AllocGlobal + Threads + Sync>(
     host: &HostRuntime,
     rt: &R,
@@ -343,7 +344,8 @@ fn goes_on_at_last<R: AllocGlobal + Threads + Sync>(
     right == Some(true)
 }
 
-/// The hub, c, d and j hear somebody new at superstep 1. Then c and d hear what the hub has heard, and at last d what c has.
+/// The hub, c, d and j hear somebody new at superstep 1. Then c and d hear what the hub has heard, and at last d what
+/// c has.
 #[test]
 fn hubs_by_teams(rt: HostRuntime) {
     assert!(rt; goes_on_at_last(&rt, &rt, HUB, &[4, 2, 1, 0]));
