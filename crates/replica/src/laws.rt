@@ -31,7 +31,7 @@ pub fn window()
 
 /// Replicas that stand for the same partition and superstep and hold the same names are equal, and stay alike.
 ///
-/// They are equal in all that they have: rows, figures, sums, and the batches that they hold. What a replica tells is
+/// They are equal in all that they have: rows, figures, sums, and the batches that they hold. What a replica shows is
 /// a function of that alone, so each reader answers the same for both. The same calls on both have the same answers,
 /// and leave both with the same content, so equal again.
 #[tactic(auto, using(crate::proofs::RunsLemmas::Same::content_decides))]

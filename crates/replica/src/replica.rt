@@ -2,7 +2,7 @@
 
 mod calls;
 mod join;
-pub mod out;
+pub(crate) mod out;
 mod rebuild;
 
 use crate::targets::Targets;
