@@ -436,6 +436,7 @@ REFUSED_CALLS = (
     ("base_tests", "of_gapcode::refusals::calls_where_memory_is_refused"),
     ("base_tests", "of_batches::refusals::calls_where_memory_is_refused"),
     ("edgelist", "tests::refusals::calls_where_memory_is_refused"),
+    ("job", "tests::refusals::calls_where_memory_is_refused"),
     ("replica", "tests::refusals::calls_where_memory_is_refused"),
     ("replica", "tests::threads::indexes_whose_memory_is_refused"),
     ("state_tests", "of_checkpoint::refusals::calls_where_memory_is_refused"),

@@ -8,4 +8,3 @@ pub mod RowLemmas
 pub mod CuttingLemmas
 pub mod RoundLemmas
 pub mod MovedLemmas
-pub mod JobLemmas

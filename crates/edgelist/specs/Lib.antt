@@ -5,4 +5,3 @@ pub mod Pieces
 pub mod Given
 pub mod Cutting
 pub mod Rounds
-pub mod Job

@@ -2,13 +2,13 @@
 //!
 //! [`read_edges`] reads a [`Graph`]: labelled vertices with their predecessors. [`read_edge_list`] also tells how many
 //! records there are. What a graph then becomes, a plan and the [`Part`]s that partitions work on, is in the crate `graph`,
-//! whose names are handed on here. [`JobOptions`] read a graph and make a plan as a job asks for them:
-//! [`JobOptions::read_network`] reads in one thread, and [`JobOptions::read_network_by`] by as many as work on the job.
+//! whose names are handed on here. [`read_edge_list_by`] reads by threads, and calls a [`ReadWatch`]. What a job asks for is
+//! read by the crate `job`.
 //!
 //! ```text
 //! let mut reader = CountingReader::new(stdin);
-//! let read = options.read_network(alloc, state, &mut reader, Some(b"alice\nbob\n"))?;
-//! let plan = options.plan(&read.graph)?;
+//! let read = read_edge_list(alloc, state, &mut reader, Delimiter::Tab, LIMITS)?;
+//! let plan = read.graph.plan(8, 0, 1, 4096)?;
 //! let part = read.graph.part(alloc, &plan, 0)?;
 //! ```
 //!
@@ -16,7 +16,6 @@
 #![tactic(auto)]
 
 mod cut;
-mod job;
 mod limits;
 mod numbering;
 mod piece;
@@ -30,13 +29,12 @@ mod watch;
 mod word;
 
 pub use graph::{CountedError, Delimiter, Feeds, Graph, Part, Preds, laws};
-pub use job::{JobOptions, NetworkError};
 pub use limits::{
     EdgeError, EdgeLimits, EdgeList, LARGE_LIMITS, LIMITS, MOST_RECORDS, USUAL_RECORDS,
 };
 pub use pieces::EdgeReader;
-pub use read::{read_edge_list, read_edges, read_large_edge_list};
-pub use watch::{Unwatched, Watch};
+pub use read::{read_edge_list, read_edge_list_by, read_edges, read_large_edge_list};
+pub use watch::{ReadWatch, Unwatched};
 
 #[cfg(test)]
 mod tests;

@@ -7,12 +7,14 @@ ghost use Rattle.edgelist.specs.Reading.{CountsOne, Refuses, large_meaning_of, m
 
 use crate::limits::{EdgeError, EdgeLimits, EdgeList, MOST_RECORDS, USUAL_RECORDS};
 use crate::reading::Sequential;
-use crate::watch::Unwatched;
+use crate::rounds::{PIECE, Rounds};
+use crate::watch::{ReadWatch, Unwatched};
 use ball_model::CountedRead;
 use ball_model::plan::{MOST_VERTICES, USUAL_VERTICES};
 use graph::{Delimiter, Graph};
-use std::alloc::Global;
+use std::alloc::{AllocGlobal, Global};
 use std::hash::RandomState;
+use std::thread::Threads;
 
 /// Reads an edge list, and numbers its labels from 0 by first appearance, a record's first field first.
 ///
@@ -87,6 +89,54 @@ pub fn read_large_edge_list<R: CountedRead>(
         limits,
     };
     sequential.read(alloc, state, reader)
+}
+
+/// Reads an edge list as [`read_large_edge_list`] does, by so many threads, or by one if they are fewer than two. One adds
+/// records, and tells the watch how many there are so far; the others cut lines into fields.
+///
+/// Several threads ask for up to two rounds of pieces, some MiB, beyond the record that is refused, and the refusal
+/// waits for them. If a call of the reader fails there, `Read` is answered; if memory is refused for a piece there, the
+/// record's refusal is. A line is held whole, a comment too.
+pub fn read_edge_list_by<R: AllocGlobal + Threads + Sync, W: ReadWatch, S: CountedRead>(
+    rt: &R,
+    watch: &W,
+    state: RandomState,
+    reader: &mut S,
+    delimiter: Delimiter,
+    limits: EdgeLimits,
+    threads: usize,
+) -> Result<EdgeList, EdgeError>
+    ensures ok { ForPlain (S.remaining reader.old) (λ text.
+        IfOk result (λ list. large_meaning_of limits delimiter text ≡ Ok list.graph)) }
+    ensures count { ForPlain (S.remaining reader.old) (λ text. IfOk result (λ list.
+        list.records ≡ length (records (byte_of delimiter) text))) }
+    ensures refused { ForPlain (S.remaining reader.old) (λ text.
+        IfErr result (Refuses (large_meaning_of limits delimiter text))) }
+    ensures read { result ≡ Err EdgeError.Read →
+        S.failed_calls reader.old < S.failed_calls reader.new }
+    ensures failed { CountsOne (S.failed_calls reader.old) (S.failed_calls reader.new) →
+        result ≡ Err EdgeError.Read }
+{
+    let vertices = limits.vertices.min(MOST_VERTICES);
+    let edges = limits.edges.min(MOST_RECORDS);
+    let limits = EdgeLimits { vertices, edges };
+    if threads < 2 {
+        let sequential = Sequential {
+            watch,
+            delimiter,
+            limits,
+        };
+        return sequential.read(rt.alloc(), state, reader);
+    }
+    let rounds = Rounds {
+        rt,
+        watch,
+        delimiter,
+        limits,
+        size: PIECE,
+        threads,
+    };
+    rounds.read(state, reader)
 }
 
 /// Reads an edge list as [`read_edge_list`] does, and gives its graph alone. For a library's user: the program does not

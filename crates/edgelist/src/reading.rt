@@ -23,7 +23,7 @@ use crate::cut::Cut;
 use crate::limits::{EdgeError, EdgeLimits, EdgeList, read_answer};
 use crate::numbering::Numbering;
 use crate::row::Row;
-use crate::watch::{Unwatched, Watch};
+use crate::watch::{ReadWatch, Unwatched};
 use crate::word::LabelWord;
 use csv::Reader;
 use graph::{Delimiter, Edge, Graph, reader_of, sort_parts};
@@ -425,7 +425,7 @@ impl Reading {
     // and the watch meanwhile; at most one more than the limit is asked for. No record is asked for after the one that is
     // refused. After the end the reader is as a read leaves it that found no record more; whether such a read was made
     // once or twice no clause tells (csv's contract says nothing of a reader at its end).
-    pub(crate) fn read_more<R: Read + Drop, W: Watch>(
+    pub(crate) fn read_more<R: Read + Drop, W: ReadWatch>(
         &mut self,
         reader: &mut Reader<R>,
         rows: &mut [Row],
@@ -587,7 +587,7 @@ impl Reading {
     }
 }
 
-impl<'a, W: Watch> Sequential<'a, W> {
+impl<'a, W: ReadWatch> Sequential<'a, W> {
     /// Calls the watch if the number of records has passed a multiple of 1,024: it was `before`, and is `number` now.
     pub(crate) fn tell(&self, before: u64, number: u64) {
         if number / TOLD_EACH > before / TOLD_EACH {

@@ -18,7 +18,7 @@ ghost use Rattle.edgelist.specs.declared.piece.Piece.{Piece};
 use crate::limits::{EdgeError, EdgeLimits, EdgeList, read_answer};
 use crate::piece::{Amount, Gives, Held, LEAST, Piece};
 use crate::reading::Reading;
-use crate::watch::Watch;
+use crate::watch::ReadWatch;
 use ball_model::CountedRead;
 use graph::Delimiter;
 use std::alloc::{AllocError, AllocGlobal, Global};
@@ -258,7 +258,7 @@ pub(crate) struct Rounds<'a, R, W> {
     pub(crate) threads: usize,
 }
 
-impl<'a, R: AllocGlobal + Threads + Sync, W: Watch> Rounds<'a, R, W> {
+impl<'a, R: AllocGlobal + Threads + Sync, W: ReadWatch> Rounds<'a, R, W> {
     // Adds the records of some pieces, which follow `number` others, while those of others are cut. Room for the edges is
     // made before the other threads take memory: a table that grows then stays where it is more often.
     fn add_and_cut(
@@ -312,7 +312,7 @@ impl<'a, R: AllocGlobal + Threads + Sync, W: Watch> Rounds<'a, R, W> {
     }
 }
 
-impl<'a, R: AllocGlobal + Threads + Sync, W: Watch> Rounds<'a, R, W> {
+impl<'a, R: AllocGlobal + Threads + Sync, W: ReadWatch> Rounds<'a, R, W> {
     // Calls the watch with how many records were added, once there are some.
     fn tell(&self, number: u64) {
         if number > 0 {

@@ -12,7 +12,7 @@ ghost use Rattle.edgelist.specs.Reading.{Refuses, limits_of, meaning_within};
 use crate::limits::{EdgeError, EdgeLimits, EdgeList, read_answer};
 use crate::reading::{Reading, Sequential};
 use crate::row::{AT_ONCE, Row, rows_for};
-use crate::watch::Watch;
+use crate::watch::ReadWatch;
 use ball_model::CountedRead;
 use csv::Reader;
 use graph::{Delimiter, reader_of};
@@ -44,7 +44,7 @@ impl<'a, R: CountedRead> Read for Counted<'a, R> {
     }
 }
 
-impl<'a, W: Watch> Sequential<'a, W> {
+impl<'a, W: ReadWatch> Sequential<'a, W> {
     // Reads all records that are left, and tells how many they were.
     fn read_records<R: Read + Drop>(
         &self,

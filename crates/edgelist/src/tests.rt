@@ -2,7 +2,6 @@
 
 mod counting;
 mod damage;
-mod job;
 mod labels;
 mod large;
 mod parts;
@@ -14,10 +13,10 @@ mod rounds;
 ghost use Rattle.std.specs.Prelude.{None};
 
 use crate::{
-    CountedError, Delimiter, EdgeError, EdgeLimits, EdgeList, EdgeReader, Graph, JobOptions,
-    NetworkError, Part, Preds, read_edge_list, read_edges, read_large_edge_list,
+    CountedError, Delimiter, EdgeError, EdgeLimits, EdgeList, EdgeReader, Graph, Part, Preds,
+    read_edge_list, read_edges, read_large_edge_list,
 };
-use ball_model::{CountingReader, Estimate, PlanError};
+use ball_model::{CountingReader, Estimate, Plan, PlanError};
 use sha2::{Digest, Sha256};
 use std::alloc::Global;
 use std::fmt::Display;
@@ -161,17 +160,22 @@ fn count(alloc: Global, graph: &mut Graph, list: Option<&[u8]>) -> bool {
     }
 }
 
-/// A job with log2m 4, seed 0, so many partitions and a limit of 4096.
-fn job_in(parts: u16, estimate: Estimate, large: bool) -> JobOptions {
-    JobOptions {
-        log2m: 4,
-        seed: 0,
-        parts,
-        limit: 4096,
-        estimate,
-        delimiter: Delimiter::Tab,
-        large,
-        threads: 0,
+/// The plan over a graph but for its digest, with log2m 4, seed 0, so many partitions and a limit of 4096.
+fn bare_plan(
+    graph: &Graph,
+    parts: u16,
+    estimate: Estimate,
+    large: bool,
+) -> Result<Plan, PlanError> {
+    let vertices = graph.vertices();
+    let raw = if large {
+        Plan::large(4, 0, parts, 4096, vertices, [0; 32])?
+    } else {
+        Plan::new(4, 0, parts, 4096, vertices, [0; 32])?
+    };
+    match estimate {
+        Estimate::Raw => Ok(raw),
+        Estimate::Corrected => Ok(raw.corrected([0; 32])),
     }
 }
 
@@ -211,18 +215,6 @@ static LIST_TEXTS: [(CountedError, &str); 3] = [
     (CountedError::Memory, "out of memory"),
 ];
 
-/// The texts of the errors of both.
-static NETWORK_TEXTS: [(NetworkError, &str); 2] = [
-    (
-        NetworkError::Edges(EdgeError::TooManyVertices),
-        "too many vertices",
-    ),
-    (
-        NetworkError::Counted(CountedError::Unknown { number: 3 }),
-        "record 3 of the list names no vertex",
-    ),
-];
-
 /// Whether an error has this text.
 fn has_text<E: Display>(alloc: Global, error: &E, text: &str) -> bool {
     match format!(in alloc; "{error}") {
@@ -243,6 +235,5 @@ fn have_texts<E: Display>(alloc: Global, texts: &[(E, &str)]) -> bool {
 #[test]
 fn error_texts(rt: HostRuntime) {
     let alloc = rt.alloc();
-    let right = have_texts(alloc, &EDGE_TEXTS) && have_texts(alloc, &LIST_TEXTS);
-    assert!(rt; right && have_texts(alloc, &NETWORK_TEXTS));
+    assert!(rt; have_texts(alloc, &EDGE_TEXTS) && have_texts(alloc, &LIST_TEXTS));
 }

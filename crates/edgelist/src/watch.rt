@@ -1,26 +1,13 @@
-//! What is called as a command gets on.
+//! What is called as an edge list is read.
 
-use ball_model::NodeId;
-
-/// What a command calls as it reads its edge list, and as its nodes get on. Nothing is asked of it, and each call does
-/// nothing as given.
-pub trait Watch {
+/// What a call by threads calls as it reads an edge list. Nothing is asked of it, and the call does nothing as given.
+pub trait ReadWatch {
     /// So many records of the edge list were read so far.
     fn while_read(&self, _records: u64) {}
-
-    /// The edge list is read, of so many records and vertices.
-    fn after_read(&self, _records: u64, _vertices: u32) {}
-
-    /// The node is at superstep 0.
-    fn after_start(&self, _node: NodeId) {}
-
-    /// The node has gone on to the superstep, at which so many of its partition's vertices changed, and how many it has
-    /// in all.
-    fn after_close(&self, _node: NodeId, _superstep: u32, _changed: u32, _vertices: u32) {}
 }
 
 /// A watch that does nothing.
 #[derive(Clone, Copy, Debug)]
 pub struct Unwatched;
 
-impl Watch for Unwatched {}
+impl ReadWatch for Unwatched {}

@@ -3,7 +3,7 @@ use Rattle.std.proofs.Common.{◌≡◌, ◌≢◌, ℕ, Bool, List, inl, inr, f
 use Rattle.std.specs.Prelude.{Err, IfSome, None, Ok, Option, Result, Some}
 use Rattle.std.specs.Io.KnownBytes.{Keeps}
 use Rattle.ball_model.specs.Streams.{Rises, RisesByOne}
-use Rattle.edgelist.specs.Job.{settings_of}
+use Rattle.job.specs.Job.{settings_of}
 use Rattle.edgelist.specs.Reading.{CountsOne}
 use Rattle.graph.specs.Records.{ForPlain}
 use Rattle.edgelist.specs.declared.limits.EdgeError.TheVariants as edge_fault

@@ -7,8 +7,9 @@ use Rattle.std.proofs.lemmas.List.{drop_all, length-take}
 use Rattle.std.proofs.KnownBytes.{Consumes-trans}
 use Rattle.ball_model.specs.Sections.{after_mark, sections_from}
 use Rattle.ball_model.specs.Streams.{Rises, TakesAtMost}
-use Rattle.world.proofs.ScriptLemmas.{behind, behind-longer, whole_rest}
-use Rattle.node.specs.declared.limits.TheConstants.{MOST_BYTES}
+use Rattle.job.proofs.SectionLemmas.{behind, behind-longer}
+use Rattle.world.proofs.ScriptLemmas.{whole_rest}
+use Rattle.job.specs.declared.limits.TheConstants.{MOST_BYTES}
 use Rattle.hyperball.specs.Streams.{Reads}
 use Rattle.hyperball.specs.Whole.{IsWholeInput, Parts, ReadsFew, ReadsWhole}
 use Rattle.hyperball.specs.declared.whole.Lack.{Lack}

@@ -5,7 +5,7 @@ use Rattle.clap.specs.Words.{Text}
 use Rattle.clap.specs.declared.error.kind.ErrorKind.{ErrorKind}
 use Rattle.clap.specs.declared.error.kind.ErrorKind.TheVariants as kind
 use Rattle.ball_model.specs.Streams.{RisesByOne}
-use Rattle.edgelist.specs.Job.{settings_of}
+use Rattle.job.specs.Job.{settings_of}
 use Rattle.hyperball.specs.Nodes.{AsksGather, AsksNode}
 use Rattle.hyperball.specs.Refusals.{DoesJob, FailsJob}
 use Rattle.hyperball.specs.Replaying.{BeginsSome, DoesReplay, FailsReplay}
@@ -32,8 +32,8 @@ use Rattle.node.specs.NoReport.{HasNoReport, IsUnwritten, WritesFrontOfJob}
 use Rattle.node.specs.Serving.{IsOfMachine, ServesNode, StopsNode, WantsNode}
 use Rattle.node.specs.declared.error.GatherError.{GatherError}
 use Rattle.node.specs.declared.error.GatherError.TheVariants as gather
-use Rattle.node.specs.declared.error.JobInputError.{JobInputError}
-use Rattle.node.specs.declared.error.JobInputError.TheVariants as job
+use Rattle.job.specs.declared.error.JobInputError.{JobInputError}
+use Rattle.job.specs.declared.error.JobInputError.TheVariants as job
 use Rattle.node.specs.declared.error.ServeError.{ServeError}
 use Rattle.node.specs.declared.error.ServeError.TheVariants as answer
 use Rattle.node.specs.declared.error.ServeNodeError.{ServeNodeError}

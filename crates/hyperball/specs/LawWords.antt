@@ -5,7 +5,7 @@ use Rattle.ball_model.specs.declared.names.NodeId.{NodeId}
 use Rattle.ball_model.specs.declared.plan.Estimate.TheVariants.{Corrected, Raw}
 use Rattle.graph.specs.declared.delimiter.Delimiter.TheVariants.{Comma, Space, Tab}
 use Rattle.world.specs.declared.replay.ReplayOptions.{ReplayOptions}
-use Rattle.node.specs.declared.job.JobInput.{JobInput}
+use Rattle.job.specs.declared.input.JobInput.{JobInput}
 use Rattle.hyperball.specs.declared.cli.gather.GatherWords.{GatherWords}
 use Rattle.hyperball.specs.declared.cli.one_node.NodeWords.{NodeWords}
 use Rattle.hyperball.specs.declared.cli.replay.ReplayWords.{ReplayWords}

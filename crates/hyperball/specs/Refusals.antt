@@ -3,7 +3,7 @@ use Rattle.std.specs.Prelude.{◌≡◌, ◌≢◌, ◌<◌, ◌≤◌, ⊤, ℕ
 use Rattle.ball_model.specs.Input.{IsPlain}
 use Rattle.ball_model.specs.RunText.{AppendsReport, ArePlain, Settings}
 use Rattle.ball_model.specs.Streams.{Rises, RisesByOne}
-use Rattle.edgelist.specs.Job.{settings_of}
+use Rattle.job.specs.Job.{settings_of}
 use Rattle.edgelist.specs.Reading.{CountsOne}
 use Rattle.edgelist.specs.declared.limits.EdgeError.TheVariants as edge_fault
 use Rattle.hyperball.specs.Streams.{KeptOrFailed, Reads, Writes}
@@ -11,7 +11,7 @@ use Rattle.hyperball.specs.Whole.{Parts, ReadsWhole, parts_in}
 use Rattle.hyperball.specs.declared.cli.run.JobFault.{JobFault}
 use Rattle.hyperball.specs.declared.cli.run.JobFault.TheVariants as fault
 use Rattle.hyperball.specs.declared.whole.Lack.TheVariants as lack
-use Rattle.node.specs.declared.limits.TheConstants.{MOST_BYTES}
+use Rattle.job.specs.declared.limits.TheConstants.{MOST_BYTES}
 use Rattle.workers.specs.Options.{run_job}
 use Rattle.workers.specs.Run.{BeginsReport, IsFaultIn, IsRunRefusal, RefusesEdges}
 use Rattle.workers.specs.declared.runs.RunError.{RunError}

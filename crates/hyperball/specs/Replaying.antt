@@ -1,6 +1,5 @@
 -- What the words of a replay say, and what they are served.
-use Rattle.std.specs.Prelude.{◌≡◌, ◌≢◌, ⊤, ◌⊎◌, ◌<◌, ◌≤◌, ℕ, true, List, length, Option, Some, IfSome}
-use Rattle.std.specs.Prelude.{option_map, Ok, Err, codes}
+use Rattle.std.specs.Prelude.{◌≡◌, ◌≢◌, ⊤, ◌⊎◌, ◌<◌, ◌≤◌, ℕ, true, List, length, Option, Some, IfSome, option_map, Ok, Err, codes}
 use Rattle.std.specs.Io.KnownBytes.{Keeps}
 use Rattle.clap.specs.Words.{Row, Text, subcommand_of}
 use Rattle.ball_model.specs.RunText.{ArePlain}
@@ -14,10 +13,9 @@ use Rattle.hyperball.specs.declared.cli.replay.ReplayWords.{ReplayWords}
 use Rattle.hyperball.specs.declared.cli.replay.ReplayFault.{ReplayFault}
 use Rattle.hyperball.specs.declared.cli.replay.ReplayFault.TheVariants as fault
 use Rattle.hyperball.specs.declared.whole.Lack.{Lack}
-use Rattle.node.specs.declared.job.JobInput.{JobInput}
-use Rattle.node.specs.declared.limits.TheConstants.{MOST_BYTES}
-use Rattle.world.specs.Replay.{AppendsSomeReplay, BeginsReplay, BeginsSomeReplay, FailsOfReplay}
-use Rattle.world.specs.Replay.{replay_job, replay_of}
+use Rattle.job.specs.declared.input.JobInput.{JobInput}
+use Rattle.job.specs.declared.limits.TheConstants.{MOST_BYTES}
+use Rattle.world.specs.Replay.{AppendsSomeReplay, BeginsReplay, BeginsSomeReplay, FailsOfReplay, replay_job, replay_of}
 use Rattle.world.specs.declared.replay.ReplayError.{ReplayError}
 use Rattle.world.specs.declared.replay.ReplayError.TheVariants as unanswered
 

@@ -1,6 +1,5 @@
 -- Inputs that are read whole, and their parts.
-use Rattle.std.specs.Prelude.{◌≡◌, ℕ, ◌+◌, ◌<◌, Bool, true, false, List, length}
-use Rattle.std.specs.Prelude.{Option, None, Some, IfSome, Result, Ok, Err}
+use Rattle.std.specs.Prelude.{◌≡◌, ℕ, ◌+◌, ◌<◌, Bool, true, false, List, length, Option, None, Some, IfSome, Result, Ok, Err}
 use Rattle.ball_model.specs.Sections.{sections_of}
 use Rattle.ball_model.specs.Streams.{Rises, RisesByOne, TakesAtMost}
 use Rattle.hyperball.specs.Streams.{Reads}
@@ -8,7 +7,7 @@ use Rattle.hyperball.specs.declared.whole.Lack.{Lack}
 use Rattle.hyperball.specs.declared.whole.Lack.TheVariants as lack
 use Rattle.hyperball.specs.declared.whole.WholeError.{WholeError}
 use Rattle.hyperball.specs.declared.whole.WholeError.TheVariants as fault
-use Rattle.node.specs.declared.limits.TheConstants.{MOST_BYTES}
+use Rattle.job.specs.declared.limits.TheConstants.{MOST_BYTES}
 
 -- at most one byte more was read than such an input may have
 abbrev pub ReadsFew : Option (List ℕ) → Option (List ℕ) → Type 0

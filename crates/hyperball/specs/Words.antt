@@ -14,7 +14,7 @@ use Rattle.ball_model.specs.declared.plan.Estimate.TheVariants.{Raw, Corrected}
 use Rattle.graph.specs.declared.delimiter.Delimiter.{Delimiter}
 use Rattle.graph.specs.declared.delimiter.Delimiter.TheVariants.{Tab, Comma, Space}
 use Rattle.ball_model.specs.declared.names.NodeId.{NodeId}
-use Rattle.edgelist.specs.declared.job.JobOptions.{JobOptions}
+use Rattle.job.specs.declared.job.JobOptions.{JobOptions}
 use Rattle.hyperball.specs.declared.cli.run.RunWords.{RunWords}
 use Rattle.hyperball.specs.declared.cli.orders.OrdersError.{OrdersError}
 use Rattle.hyperball.specs.declared.cli.orders.OrdersError.TheVariants as orders_error
@@ -22,7 +22,7 @@ use Rattle.hyperball.specs.declared.cli.WordsError.{WordsError}
 use Rattle.hyperball.specs.declared.cli.WordsError.TheVariants as words
 use Rattle.hyperball.specs.CommandLine.{Parsers, TakeNames, hyperball_app}
 use Rattle.hyperball.specs.Orders.{AreOrders}
-use Rattle.node.specs.declared.job.JobInput.{JobInput}
+use Rattle.job.specs.declared.input.JobInput.{JobInput}
 use Rattle.workers.specs.Options.{run_job}
 
 -- the words of a command line as texts

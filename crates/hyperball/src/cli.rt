@@ -14,22 +14,22 @@ ghost use Rattle.hyperball.specs.Words.{RefusesOrders, texts_of};
 
 pub mod arguments;
 pub mod gather;
-pub mod job;
 pub mod one_node;
+pub mod options;
 pub mod orders;
 pub mod replay;
 pub mod run;
 
 use crate::cli::gather::{GatherWords, gather_command, gather_words_of};
-use crate::cli::job::{delimiters, estimates};
 use crate::cli::one_node::{NodeWords, node_command, node_words_of};
+use crate::cli::options::{delimiters, estimates};
 use crate::cli::orders::OrdersError;
 use crate::cli::replay::{ReplayWords, replay_command, replay_words_of};
 use crate::cli::run::{RunWords, run_command, run_words};
 use crate::lines::News;
 use crate::progress::foretold;
 use clap::{ArgMatches, Command, Error};
-use edgelist::JobOptions;
+use job::JobOptions;
 use std::alloc::{AllocError, Global};
 
 const VERSION: &str = "0.1.0";

@@ -10,7 +10,8 @@ ghost use Rattle.hyperball.specs.Progress.{Foretells, IsRefusedForVertices, Tell
 use crate::lines::News;
 use ball_model::plan::GREATEST_LIMIT;
 use ball_model::{NodeId, Plan, PlanError};
-use edgelist::Watch;
+use edgelist::ReadWatch;
+use job::Watch;
 use std::alloc::{AllocError, Global};
 use std::io::{Eprint, Stderr, Write};
 use std::sync::atomic::{AtomicU32, AtomicU64, Ordering};
@@ -284,7 +285,7 @@ impl<'a, C: Clock, T: Teller> Gate for TellingGate<'a, C, T> {
     }
 }
 
-impl<'a, C: Clock, T: Teller> Watch for TellingGate<'a, C, T> {
+impl<'a, C: Clock, T: Teller> ReadWatch for TellingGate<'a, C, T> {
     fn while_read(&self, records: u64) {
         if let Some(progress) = &self.progress
             && self.pause.is_over()
@@ -292,7 +293,9 @@ impl<'a, C: Clock, T: Teller> Watch for TellingGate<'a, C, T> {
             progress.tell_reading(records);
         }
     }
+}
 
+impl<'a, C: Clock, T: Teller> Watch for TellingGate<'a, C, T> {
     fn after_read(&self, records: u64, vertices: u32) {
         if let Some(progress) = &self.progress {
             progress.note_edge_list(records, vertices);
@@ -346,6 +349,8 @@ impl<'a, T: Teller> TellingWatch<'a, T> {
         }
     }
 }
+
+impl<'a, T: Teller> ReadWatch for TellingWatch<'a, T> {}
 
 impl<'a, T: Teller> Watch for TellingWatch<'a, T> {
     fn after_read(&self, records: u64, vertices: u32) {

@@ -10,8 +10,7 @@ ghost use Rattle.hyperball.specs.Streams.{reads_of};
 ghost use Rattle.hyperball.specs.Whole.{IsLong, IsWholeInput, ReadsFew, ReadsWhole, parts_in};
 
 use ball_model::{CountedRead, Filled, fill};
-use node::limits::MOST_BYTES;
-use node::section::after_mark;
+use job::{MOST_BYTES, after_mark};
 use std::alloc::{AllocError, Global};
 use thiserror::Error;
 

@@ -12,14 +12,13 @@ use Rattle.std.specs.Io.KnownBytes.{Appends, Consumes, IsAtEnd}
 use Rattle.std.proofs.KnownBytes.{Consumes-nil, Consumes-trans}
 use Rattle.std.proofs.lemmas.List.{flat_map_more}
 use Rattle.std.proofs.lemmas.List.Elements.{All-nil, All-cons}
-use Rattle.ball_model.specs.Job.{Job, IsJob, PartValue, part_of}
+use Rattle.ball_model.specs.Job.{Job, IsJob, PartValue, part_of, job_of}
 use Rattle.ball_model.specs.PlanValue.{PlanValue}
 use Rattle.ball_model.specs.State.{State, StandsFor}
 use Rattle.report.specs.Ready.{AllStand, are_ready, job_report}
 use Rattle.node.specs.Gathering.{AreGivenBack, AreMadeOf, AreCheckpointsFrom, Gathers, IsMadeOf, ReadsAll, ReadsCheckpoint, part_line, part_text, parts_text, report_fault}
 use Rattle.ball_model.specs.Streams.{PutsFront}
 use Rattle.ball_model.specs.Input.{Network}
-use Rattle.ball_model.specs.Job.{job_of}
 use Rattle.ball_model.specs.RunText.{Settings}
 use Rattle.ball_model.specs.Sections.{longer}
 use Rattle.checkpoint.specs.declared.error.KeepError.{KeepError}
@@ -27,7 +26,7 @@ use Rattle.checkpoint.specs.declared.error.KeepError.TheVariants as unkept
 use Rattle.node.specs.declared.error.GatherError.{GatherError}
 use Rattle.node.specs.declared.error.GatherError.TheVariants as fault
 use Rattle.node.specs.NoReport.{AreUnready, EndsWithin, IsNoReplica, IsNoReport, LacksPartRoom, LacksReportRoom, ReadsNoCheckpoint, StopsAtPart, WritesFront, WritesFrontOfJob, checkpoint_fault}
-use Rattle.node.specs.Job.{IsJobRead}
+use Rattle.job.specs.Input.{IsJobRead}
 use Rattle.node.specs.Refusals.{IsNoCheckpoint}
 use Rattle.node.specs.Stream.{CutsBody, ReadsBody, ReadsInLine}
 use Rattle.checkpoint.specs.Reading.{most_checkpoint_bytes}

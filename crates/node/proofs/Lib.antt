@@ -1,7 +1,6 @@
 pub mod SessionLemmas
 pub mod StepLemmas
 pub mod ServeLemmas
-pub mod SectionLemmas
 pub mod CommandLemmas
 pub mod GatherLemmas
 pub mod JobLemmas

@@ -14,7 +14,7 @@ use Rattle.ball_model.specs.Join.{Holding}
 use Rattle.ball_model.specs.PlanValue.{PlanValue}
 use Rattle.ball_model.specs.RunText.{Settings}
 use Rattle.ball_model.specs.State.{State}
-use Rattle.node.specs.Job.{IsJobRead}
+use Rattle.job.specs.Input.{IsJobRead}
 use Rattle.node.specs.NodeText.{AllAsk, AnswersOne, AnswersAll, Question, Asks, IsRequest, Request, after_all_asked, after_asked, body_length, command_in, request_bytes, requests_text}
 use Rattle.node.specs.declared.command.Command.{Command}
 use Rattle.node.specs.declared.error.ServeError.{ServeError}

@@ -1,7 +1,6 @@
 -- What a call of a replica makes of its holding.
-use Rattle.std.proofs.Common.{◌≡◌, ◌≢◌, ◌∙◌, ℕ, ◌<◌, ◌==◌, Bool, true, false, not, if◌then◌else◌, List, [], length, refl, ap, sym, subst, ◌⊎◌, inl, inr}
-use Rattle.std.proofs.lemmas.Bool.{eq-eqb, eqb-true}
-use Rattle.std.proofs.lemmas.List.{nil_from_length}
+use Rattle.std.proofs.Common.{◌≡◌, ◌≢◌, ◌∙◌, ℕ, ◌<◌, ◌==◌, Bool, true, false, not, if◌then◌else◌, List, refl, ap, sym, subst, ◌⊎◌, inl, inr}
+use Rattle.std.proofs.lemmas.Bool.{eq-eqb}
 use Rattle.std.proofs.lemmas.Result.{IfOk-from_err}
 use Rattle.ball_model.specs.Content.{same_plan}
 use Rattle.replica.proofs.RunsLemmas.Run.{same_plan-self}
@@ -18,10 +17,10 @@ use Rattle.ball_model.specs.declared.world.Answer.TheVariants as answer
 use Rattle.ball_model.specs.Batches.{BatchValue, IsBatch, IsTrueBatch, batch_bytes, true_batch}
 use Rattle.ball_model.specs.Checkpoint.{checkpoint_bytes, first_checkpoint_bytes, without_names}
 use Rattle.ball_model.specs.Held.{IsHeldBy, IsName, held_after, held_close_answer, held_take_answer, start_holding}
-use Rattle.ball_model.specs.Job.{Job, IsJob, part_of}
+use Rattle.ball_model.specs.Job.{Job, IsJob, part_of, PartValue}
 use Rattle.ball_model.specs.Join.{Holding, join_of, merge_of}
 use Rattle.ball_model.specs.PlanValue.{PlanValue}
-use Rattle.ball_model.specs.State.{State}
+use Rattle.ball_model.specs.State.{State, StandsFor, content_of}
 use Rattle.ball_model.specs.Steps.{Take, Close}
 use Rattle.ball_model.specs.World.{Node, closed_answer, taken_answer}
 use Rattle.ball_model.specs.WorldLaws.{IsWorldNode}
@@ -31,7 +30,6 @@ use Rattle.checkpoint.specs.declared.error.KeepError.TheVariants as unkept
 use Rattle.checkpoint.specs.Reading.{Ends, IfOkButWant, IsOfBytes, IsRead, IsReplicaSpelling, OnOkOrMemory, TellNone, content_form, seal_form, sealed_form}
 use Rattle.checkpoint.proofs.FormLemmas.{first_fine, second_fine}
 use Rattle.checkpoint.proofs.ReaderLemmas.{followed-err}
-use Rattle.ball_model.specs.Job.{PartValue}
 use Rattle.replica.specs.Runs.{Takes, Closes}
 use Rattle.replica.specs.Saved.{IsKeepable}
 use Rattle.replica.specs.Seen.{IsState}
@@ -39,7 +37,6 @@ use Rattle.replica.proofs.LevelLemmas.Level.{plan_is}
 use Rattle.world.specs.Shows.{Has, ShowsNode}
 use Rattle.world.specs.Turns.{merged_when}
 use Rattle.world.proofs.KeepLemmas.{keepable, only_want}
-use Rattle.ball_model.specs.State.{StandsFor, content_of}
 use Rattle.world.proofs.NodeLemmas.{MergesWith, close_turns, fine, node, recover_turns, start_shows, take_turns, unmerged_turns}
 use Rattle.node.specs.declared.session.Reply.{Reply}
 use Rattle.node.specs.declared.session.Reply.TheVariants as reply
@@ -221,9 +218,6 @@ start_has j p v stands names state = (start_shows j p v stands names state).cont
 
 pub begun : (j : Job) (p : ℕ) (v : State) → p < j.plan.parts → Has j (start_holding j.plan p) v → Holds j p (start_holding j.plan p) v
 begun j p v below has = record { held = start_held j p below; has = has }
-
-pub no_bytes : (xs : List ℕ) → (length xs == 0) ≡ true → xs ≡ []
-no_bytes xs is = nil_from_length xs (eqb-true (length xs) 0 is)
 
 -- ---- what is said of other bytes
 pub over_said : {E : Type 0} (r : Result (Unit {0}) MergeError) (t : ℕ) (said : Result Reply E) → SaysMerged r t said → IfOk said IsAnswered

@@ -12,7 +12,8 @@ use Rattle.ball_model.specs.Streams.{EndsAfter}
 use Rattle.world.specs.Tell.{TellsOf}
 use Rattle.world.specs.declared.tell.TellError.{TellError}
 use Rattle.world.specs.declared.tell.TellError.TheVariants as untold
-use Rattle.node.specs.Stream.{CutsBody, FailsAs, HasNoEnd, ReadsBody, ReadsInLine}
+use Rattle.job.specs.Stream.{FailsAs}
+use Rattle.node.specs.Stream.{CutsBody, HasNoEnd, ReadsBody, ReadsInLine}
 
 -- all of so many bytes but the last n were read
 pub record ReadsAllBut (size n : ℕ) (old new : Option (List ℕ)) : Type 0 where

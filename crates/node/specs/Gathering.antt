@@ -16,7 +16,7 @@ use Rattle.report.specs.declared.write.ReportError.{ReportError}
 use Rattle.report.specs.declared.write.ReportError.TheVariants as unreported
 use Rattle.node.specs.declared.error.GatherError.{GatherError}
 use Rattle.node.specs.declared.error.GatherError.TheVariants as fault
-use Rattle.node.specs.Job.{IsJobRead}
+use Rattle.job.specs.Input.{IsJobRead}
 use Rattle.node.specs.NodeText.{IsGivenBack}
 use Rattle.node.specs.Refusals.{IsNodeCheckpoint}
 use Rattle.node.specs.Turns.{Holds}

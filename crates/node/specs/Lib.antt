@@ -1,9 +1,7 @@
 pub mod NodeText
-pub mod Section
 pub mod Stream
 pub mod Turns
 pub mod Refusals
-pub mod Job
 pub mod NoJob
 pub mod Serving
 pub mod Laws

@@ -15,10 +15,10 @@ use Rattle.report.specs.Ready.{are_ready, job_report}
 use Rattle.world.specs.Script.{cut_of}
 use Rattle.node.specs.declared.error.GatherError.{GatherError}
 use Rattle.node.specs.declared.error.GatherError.TheVariants as fault
-use Rattle.node.specs.declared.error.JobInputError.{JobInputError}
+use Rattle.job.specs.declared.error.JobInputError.{JobInputError}
 use Rattle.node.specs.Gathering.{AreGivenBack, AreOfAnEnd, AreCheckpointsFrom, ReadsAll, part_line, part_text, parts_text}
-use Rattle.node.specs.Job.{IsJobRead}
-use Rattle.node.specs.NoJob.{IsNoJob}
+use Rattle.job.specs.Input.{IsJobRead}
+use Rattle.job.specs.NoJob.{IsNoJob}
 use Rattle.node.specs.NodeText.{size_in}
 use Rattle.node.specs.Refusals.{IsNoCheckpoint}
 use Rattle.node.specs.Stream.{HasNoEnd}

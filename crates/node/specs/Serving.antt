@@ -23,7 +23,7 @@ use Rattle.node.specs.declared.error.ServeError.{ServeError}
 use Rattle.node.specs.declared.error.ServeError.TheVariants as fault
 use Rattle.node.specs.NodeText.{AnswersOne, AnswersAll, AllAsk, Question, Asks, IsNotFor, IsRequest, Request, after_all_asked, after_asked, body_length, command_in, refused_line, request_bytes, requests_text}
 use Rattle.node.specs.Refusals.{IsNoCheckpoint}
-use Rattle.node.specs.Job.{IsJobRead}
+use Rattle.job.specs.Input.{IsJobRead}
 use Rattle.node.specs.Stream.{HasNoEnd, WholeLine}
 use Rattle.node.specs.declared.input.TheConstants.{MOST_LINE}
 use Rattle.node.specs.Turns.{Holds, batch_word, checkpoint_word, most_body}

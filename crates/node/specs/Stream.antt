@@ -1,8 +1,7 @@
--- Lines on a stream, and calls of it that failed.
+-- Lines and bodies on a stream.
 use Rattle.std.specs.Prelude.{◌≡◌, ◌≢◌, ⊤, ℕ, ◌<◌, ◌≤◌, List, [], ◌∷◌, ◌++◌, length, Option}
 use Rattle.std.specs.Io.KnownBytes.{Consumes, IsAtEnd}
 use Rattle.std.specs.List.{All}
-use Rattle.ball_model.specs.Streams.{RisesByOne}
 use Rattle.node.specs.declared.input.Line.{Line}
 use Rattle.node.specs.declared.input.Line.TheVariants as outcome
 use Rattle.node.specs.declared.input.TheConstants.{MOST_LINE}
@@ -64,8 +63,3 @@ pub record CutsBody (size : ℕ) (old new : Option (List ℕ)) : Type 0 where
   pub consumed : Consumes old new bytes
   pub fewer : length bytes < size
   pub end : IsAtEnd new
-
--- a call of the stream failed if the result is this fault, and none if it is another
-pub record FailsAs {S A : Type 0} (failed : S → ℕ) (old new : S) (result fault : A) : Type 0 where
-  pub some : result ≡ fault → RisesByOne (failed old) (failed new)
-  pub none : result ≢ fault → failed new ≡ failed old

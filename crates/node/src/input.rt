@@ -4,10 +4,11 @@ ghost use Rattle.std.specs.Prelude.{◌≡◌, ◌≢◌, ◌<◌, ◌≤◌, �
 ghost use Rattle.std.specs.Prelude.{vec_capacity};
 ghost use Rattle.std.specs.Io.KnownBytes.{Consumes};
 ghost use Rattle.ball_model.specs.Streams.{RisesByOne};
-ghost use Rattle.node.specs.Stream.{CutsBody, FailsAs, ReadsBody, ReadsLine};
+ghost use Rattle.job.specs.Stream.{FailsAs};
+ghost use Rattle.node.specs.Stream.{CutsBody, ReadsBody, ReadsLine};
 
-use crate::section::{NextByte, next_of};
 use ball_model::{CountedRead, Filled, fill};
+use job::{NextByte, next_of};
 use std::alloc::AllocError;
 
 // The most bytes of a line: no command is as long.

@@ -15,7 +15,7 @@
 //! ```
 //!
 //! What a node answers is a function of the commands over one node of the world's definition: the same replica as a
-//! [`world::World`] has, whose batches and checkpoints are kept by others. Both calls have an [`edgelist::Watch`] that
+//! [`world::World`] has, whose batches and checkpoints are kept by others. Both calls have an [`job::Watch`] that
 //! they call as they get on.
 #![tactic(auto)]
 
@@ -24,11 +24,9 @@ mod command;
 pub mod error;
 pub mod gather;
 mod input;
-pub mod job;
 pub mod laws;
 pub mod limits;
 mod own;
-pub mod section;
 pub mod serve;
 mod session;
 #[cfg(test)]

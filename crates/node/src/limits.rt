@@ -1,4 +1,4 @@
-//! How many bytes a text may have that is held whole, and how many may follow a command.
+//! How many bytes may follow a command.
 
 ghost use Rattle.std.specs.Prelude.{◌≡◌, ◌<◌, ◌≤◌, ◌^◌, true, false};
 ghost use Rattle.checkpoint.specs.Reading.{greatest_batch, most_checkpoint_bytes};
@@ -11,10 +11,6 @@ use checkpoint::sizes::{
     COUNT_LEN, DIGEST_LEN, ENTRY_LEN, HEADER_LEN, HEARD_LEN, ID_LEN, LENGTH_LEN, SUM_LEN,
 };
 use edgelist::Part;
-
-/// The most bytes of a text that is held whole in memory: 2^26. A list of counted vertices is such a text, and so is an
-/// input of the program that is read whole.
-pub const MOST_BYTES: usize = 67_108_864;
 
 /// The most bytes of a batch of a plan: those of one of all vertices of partition 0, which has the most.
 pub(crate) fn longest_batch(plan: &Plan) -> u64

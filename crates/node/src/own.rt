@@ -8,7 +8,7 @@ ghost use Rattle.ball_model.specs.PlanValue.{mixing_of};
 ghost use Rattle.ball_model.specs.Report.{vertex_text};
 ghost use Rattle.ball_model.specs.Streams.{RisesByOne};
 ghost use Rattle.node.specs.NodeText.{figures_text};
-ghost use Rattle.node.specs.Stream.{FailsAs};
+ghost use Rattle.job.specs.Stream.{FailsAs};
 ghost use Rattle.report.specs.Parts.{true_figures};
 ghost use Rattle.world.specs.Tell.{AppendsOf};
 

@@ -7,10 +7,10 @@ mod vectors;
 mod watched;
 
 use crate::error::ServeNodeError;
-use crate::job::JobInput;
 use crate::serve::serve_node;
 use ball_model::{CountedWrite, Estimate, MemReader, MemWriter};
-use edgelist::{Delimiter, JobOptions, Unwatched, Watch};
+use edgelist::Delimiter;
+use job::{JobInput, JobOptions, Unwatched, Watch};
 use std::hash::RandomState;
 
 /// What is asked of a job in so many partitions.

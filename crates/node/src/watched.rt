@@ -2,7 +2,7 @@
 
 use ball_model::NodeId;
 use ball_model::world::Answer;
-use edgelist::Watch;
+use job::Watch;
 use replica::{Replica, Shown};
 
 /// Calls a watch for a replica, the only one of its partition, that has reached its superstep.

@@ -12,14 +12,14 @@ use Rattle.ball_model.specs.RunText.{AreRead, HasPlan, IsReport, IsReportOf, Num
 use Rattle.ball_model.specs.Streams.{PutsFront, Rises, RisesByOne}
 use Rattle.ball_model.specs.declared.plan.PlanError.{PlanError}
 use Rattle.ball_model.proofs.BoolLemmas.{by_cases}
-use Rattle.edgelist.specs.Job as edges
-use Rattle.edgelist.specs.Job.{numbers_asked, settings_of}
+use Rattle.job.specs.Job as edges
+use Rattle.job.specs.Job.{numbers_asked, settings_of}
 use Rattle.edgelist.specs.Reading.{CountsOne}
 use Rattle.graph.specs.Records.{ForPlain}
 use Rattle.graph.specs.declared.counting.CountedError.TheVariants as counted
-use Rattle.edgelist.specs.declared.job.JobOptions.{JobOptions}
-use Rattle.edgelist.specs.declared.job.NetworkError.{NetworkError}
-use Rattle.edgelist.specs.declared.job.NetworkError.TheVariants as unread
+use Rattle.job.specs.declared.job.JobOptions.{JobOptions}
+use Rattle.job.specs.declared.job.NetworkError.{NetworkError}
+use Rattle.job.specs.declared.job.NetworkError.TheVariants as unread
 use Rattle.edgelist.specs.declared.limits.EdgeError.{EdgeError}
 use Rattle.edgelist.specs.declared.limits.EdgeError.TheVariants as edge
 use Rattle.workers.specs.declared.ends.JobError.{JobError}

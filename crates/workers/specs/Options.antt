@@ -4,7 +4,7 @@ use Rattle.ball_model.specs.declared.names.NodeId.{NodeId}
 use Rattle.ball_model.specs.declared.plan.TheConstants.{MOST_REPLICAS}
 use Rattle.ball_model.specs.PlanValue.{greatest_limit}
 use Rattle.board.specs.declared.board.TheConstants.{LEAST_ENTRIES, MOST_ENTRIES}
-use Rattle.edgelist.specs.declared.job.JobOptions.{JobOptions}
+use Rattle.job.specs.declared.job.JobOptions.{JobOptions}
 use Rattle.workers.specs.declared.worker.node_run.NodeOrders.{NodeOrders}
 use Rattle.workers.specs.declared.options.RunOptions.{RunOptions}
 

@@ -8,9 +8,9 @@ use Rattle.ball_model.specs.RunText.{AppendsReport, ArePlain, AreRead, HasPlan, 
 use Rattle.ball_model.specs.Streams.{PutsFront}
 use Rattle.edgelist.specs.Reading.{Refuses}
 use Rattle.graph.specs.Counting.{IsListRefusal}
-use Rattle.edgelist.specs.Job.{numbers_asked, settings_of}
-use Rattle.edgelist.specs.declared.job.NetworkError.{NetworkError}
-use Rattle.edgelist.specs.declared.job.NetworkError.TheVariants as unread
+use Rattle.job.specs.Job.{numbers_asked, settings_of}
+use Rattle.job.specs.declared.job.NetworkError.{NetworkError}
+use Rattle.job.specs.declared.job.NetworkError.TheVariants as unread
 use Rattle.workers.specs.declared.ends.JobError.{JobError}
 use Rattle.workers.specs.declared.ends.JobError.TheVariants as job
 use Rattle.workers.specs.declared.options.RunOptions.{RunOptions}

@@ -6,7 +6,8 @@ ghost use Rattle.workers.specs.Marks.{place_at};
 use crate::running::zeros;
 use ball_model::NodeId;
 use ball_model::plan::{MOST_PARTS, MOST_REPLICAS};
-use edgelist::Watch;
+use edgelist::ReadWatch;
+use job::Watch;
 use std::alloc::{AllocError, Global};
 use std::sync::atomic::{AtomicU32, Ordering};
 use std::thread;
@@ -77,6 +78,8 @@ impl<'a, G: Gate> Gate for UnwatchedGate<'a, G> {
         self.gate.wait_for(node, source)
     }
 }
+
+impl<'a, G> ReadWatch for UnwatchedGate<'a, G> {}
 
 impl<'a, G> Watch for UnwatchedGate<'a, G> {}
 

@@ -6,7 +6,8 @@ ghost use Rattle.workers.specs.Options.{are_all_named, are_in_limits, is_named, 
 use ball_model::plan::{GREATEST_LIMIT, MOST_REPLICAS};
 use ball_model::{Estimate, NodeId};
 use board::{LEAST_ENTRIES, MOST_ENTRIES};
-use edgelist::{Delimiter, JobOptions};
+use edgelist::Delimiter;
+use job::JobOptions;
 
 /// What is asked of a run.
 #[derive(Debug, PartialEq, Eq, Drop)]

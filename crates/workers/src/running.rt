@@ -12,7 +12,8 @@ use crate::marks::{Look, Marked};
 use crate::options::is_named;
 use ball_model::NodeId;
 use ball_model::plan::MOST_REPLICAS;
-use edgelist::Watch;
+use edgelist::ReadWatch;
+use job::Watch;
 use std::alloc::{AllocError, Global};
 use std::sync::atomic::AtomicU32;
 
@@ -185,11 +186,13 @@ impl<'a, G: Gate> Gate for RunGate<'a, G> {
     }
 }
 
-impl<'a, G: Watch> Watch for RunGate<'a, G> {
+impl<'a, G: ReadWatch> ReadWatch for RunGate<'a, G> {
     fn while_read(&self, records: u64) {
         self.gate.while_read(records);
     }
+}
 
+impl<'a, G: Watch> Watch for RunGate<'a, G> {
     fn after_read(&self, records: u64, vertices: u32) {
         self.gate.after_read(records, vertices);
     }

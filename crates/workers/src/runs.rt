@@ -7,7 +7,7 @@ ghost use Rattle.ball_model.specs.PlanValue.{mixing_of};
 ghost use Rattle.ball_model.specs.Report.{report_of};
 ghost use Rattle.ball_model.specs.RunText.{network_in};
 ghost use Rattle.ball_model.specs.Streams.{PutsFront, Rises, RisesByOne};
-ghost use Rattle.edgelist.specs.Job.{settings_of};
+ghost use Rattle.job.specs.Job.{settings_of};
 ghost use Rattle.edgelist.specs.Reading.{CountsOne};
 ghost use Rattle.graph.specs.Records.{ForPlain};
 ghost use Rattle.workers.specs.declared.ends.JobError.{JobError as NodesFault};
@@ -18,12 +18,13 @@ ghost use Rattle.workers.specs.Run.{IsRunRefusal, RefusesEdges, WherePlain, job_
 
 use crate::ends::JobError;
 use crate::gate::{Gate, UnwatchedGate};
-use crate::job::run_job;
+use crate::nodes::run_job;
 use crate::options::RunOptions;
 use crate::planned::plan_parts;
 use crate::threads::share_of;
 use ball_model::{CountedRead, CountedWrite, CountingWriter, NodeId, Plan, PlanError};
-use edgelist::{CountedError, EdgeError, Graph, NetworkError, Watch};
+use edgelist::{CountedError, EdgeError, Graph};
+use job::{NetworkError, Watch};
 use replica::Replica;
 use report::{Pages, write_report_by};
 use std::alloc::{AllocError, AllocGlobal};

@@ -14,16 +14,9 @@ use Rattle.ball_model.specs.Input.{fields, is_record, with_first_byte}
 use Rattle.ball_model.specs.WorldText.{command_of, events_from, node_from, node_in, number_in, one_command, script_of, two_command, value_from, with_command}
 use Rattle.ball_model.specs.Sections.{longer}
 use Rattle.world.specs.Script.{added, cut_of, fault_line, is_command_or_skipped, number_below}
+use Rattle.job.proofs.SectionLemmas.{behind, behind-longer}
 
 -- ---- cutting
-
--- a text that is cut behind some bytes
-abbrev pub behind : List ℕ → Option (List ℕ × List ℕ) → Option (List ℕ × List ℕ)
-behind xs o = option_map (λ s. (xs ++ s.0, s.1)) o
-
-pub behind-longer : (xs : List ℕ) (c : ℕ) (o : Option (List ℕ × List ℕ)) → behind xs (longer c o) ≡ behind (xs ++ c ∷ []) o
-behind-longer xs c None = refl
-behind-longer xs c (Some s) = ap (λ l. Some (l, s.1)) (sym (append_assoc xs (c ∷ []) s.0))
 
 pub whole_rest : (xs : List ℕ) (i : ℕ) → i ≤ length xs → take (length xs - i) (drop i xs) ≡ drop i xs
 whole_rest xs i lt = take_all (length xs - i) (drop i xs) (let long = length-drop i xs in omega (arith, long))

@@ -8,11 +8,11 @@ use Rattle.ball_model.specs.Streams.{RisesByOne}
 use Rattle.ball_model.specs.World.{start_world}
 use Rattle.ball_model.specs.WorldText.{AreReplicas, HasCommands, IsReplayPlanFault, IsReplayText, IsReplayTextOf, IsScriptFault, ReplaySettings, job_over, script_of}
 use Rattle.graph.specs.Counting.{IsListRefusal}
-use Rattle.edgelist.specs.Job.{settings_of}
+use Rattle.job.specs.Job.{settings_of}
 use Rattle.edgelist.specs.Reading.{Refuses}
-use Rattle.edgelist.specs.declared.job.JobOptions.{JobOptions}
-use Rattle.edgelist.specs.declared.job.NetworkError.{NetworkError}
-use Rattle.edgelist.specs.declared.job.NetworkError.TheVariants as unread
+use Rattle.job.specs.declared.job.JobOptions.{JobOptions}
+use Rattle.job.specs.declared.job.NetworkError.{NetworkError}
+use Rattle.job.specs.declared.job.NetworkError.TheVariants as unread
 use Rattle.edgelist.specs.declared.limits.EdgeError.TheVariants as edge_fault
 use Rattle.world.specs.declared.replay.ReplayOptions.{ReplayOptions}
 use Rattle.world.specs.declared.replay.ReplayError.{ReplayError}

@@ -18,7 +18,7 @@
 //! ```
 //!
 //! [`replay::replay`] plays a script, a command on each line, over an edge list, and writes the answers;
-//! [`replay::replay_watched`] also calls an [`edgelist::Watch`] as it proceeds.
+//! [`replay::replay_watched`] also calls an [`job::Watch`] as it proceeds.
 //!
 //! An event is refused ([`WorldError`]) if there is no such node, target, message or copy, or if memory is refused;
 //! then the world is as it was.

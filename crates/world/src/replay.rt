@@ -7,7 +7,7 @@ ghost use Rattle.ball_model.specs.RunText.{ArePlain, list_in, network_in};
 ghost use Rattle.ball_model.specs.World.{World as Defined, after_event};
 ghost use Rattle.ball_model.specs.WorldText.{AppendsReplay, HasCommands, event_text, events_text};
 ghost use Rattle.ball_model.specs.WorldText.{script_of};
-ghost use Rattle.edgelist.specs.Job.{numbers_asked, settings_of};
+ghost use Rattle.job.specs.Job.{numbers_asked, settings_of};
 ghost use Rattle.world.specs.Replay.{AppendsSomeReplay, FailsOfReplay, IsBegun, IsEarly, IsReady};
 ghost use Rattle.world.specs.Replay.{RefusesCommands, RefusesStart, replay_job, replay_of};
 ghost use Rattle.world.specs.Shows.{Shows};
@@ -20,9 +20,8 @@ use crate::tell::{TellError, is_shown, is_want, node_of, show_close, tell_node, 
 use ball_model::plan::MOST_REPLICAS;
 use ball_model::world::Event;
 use ball_model::{CountedWrite, Estimate, PlanError};
-use edgelist::{
-    CountedError, Delimiter, EdgeError, Graph, JobOptions, NetworkError, Unwatched, Watch,
-};
+use edgelist::{CountedError, Delimiter, EdgeError, Graph};
+use job::{JobOptions, NetworkError, Unwatched, Watch};
 use std::alloc::{AllocError, Global};
 use std::hash::RandomState;
 use thiserror::Error;

@@ -17,7 +17,7 @@ use crate::World;
 use crate::answer::{put_answer, put_node, put_refusal, put_vertex};
 use ball_model::world::{Answer, Event, WorldError};
 use ball_model::{CountedWrite, NodeId, put_all};
-use edgelist::Watch;
+use job::Watch;
 use replica::{Replica, Shown};
 use std::alloc::AllocError;
 

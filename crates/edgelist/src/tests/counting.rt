@@ -81,8 +81,8 @@ fn jobs(graph: &Graph) -> Result<[[u8; 32]; 2], PlanError> {
 
 // Both job digests, each made for a plan without one, usual or large.
 fn digests(graph: &Graph, large: bool) -> Result<[[u8; 32]; 2], PlanError> {
-    let raw = job_in(2, Estimate::Raw, large).bare_plan(graph)?;
-    let corrected = job_in(2, Estimate::Corrected, large).bare_plan(graph)?;
+    let raw = bare_plan(graph, 2, Estimate::Raw, large)?;
+    let corrected = bare_plan(graph, 2, Estimate::Corrected, large)?;
     Ok([graph.digest(&raw), graph.digest(&corrected)])
 }
 

@@ -24,7 +24,7 @@ fn is_row(part: &Part, row: &Row<'_>) -> bool {
 
 // A part of a graph by the masks of all vertices, and whose digest is put in afterwards.
 pub(super) fn part_by_feeds(alloc: Global, graph: &Graph, parts: u16, p: u16) -> Option<Part> {
-    let Ok(bare) = job_in(parts, Estimate::Raw, false).bare_plan(graph) else {
+    let Ok(bare) = bare_plan(graph, parts, Estimate::Raw, false) else {
         return None;
     };
     if p >= bare.parts() {

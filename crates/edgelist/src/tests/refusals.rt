@@ -3,9 +3,8 @@
 
 use super::counting::counts;
 use super::parts::part_by_feeds;
-use super::rounds::job_by;
 use super::*;
-use crate::Unwatched;
+use crate::{LIMITS, Unwatched, read_edge_list_by};
 use std::alloc::AllocGlobal;
 use std::thread::Threads;
 
@@ -28,10 +27,17 @@ fn told_there(rt: &HostRuntime) -> Told {
 // What the two edges are read as by three threads.
 fn told_by_three<R: AllocGlobal + Threads + Sync>(rt: &R, state: RandomState) -> Told {
     let mut reader = CountingReader::new(at_once(TWO_EDGES));
-    match job_by(3).read_network_by(rt, &Unwatched, state, &mut reader, None) {
+    match read_edge_list_by(
+        rt,
+        &Unwatched,
+        state,
+        &mut reader,
+        Delimiter::Tab,
+        LIMITS,
+        3,
+    ) {
         Ok(read) => Ok(shown(&read.graph)),
-        Err(NetworkError::Edges(fault)) => Err(fault),
-        Err(NetworkError::Counted(_)) => Err(EdgeError::Read),
+        Err(fault) => Err(fault),
     }
 }
 

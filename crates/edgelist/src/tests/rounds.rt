@@ -4,9 +4,11 @@ use super::pieces::push_pieces;
 use super::reading::{CASES, Case};
 use super::{Stepping, TWO_EDGES, TWO_LINES, Told, at_once, hash, shown};
 use crate::rounds::Rounds;
-use crate::{Delimiter, EdgeError, EdgeLimits, EdgeList, JobOptions, LIMITS, Unwatched, Watch};
+use crate::{
+    Delimiter, EdgeError, EdgeLimits, EdgeList, LIMITS, ReadWatch, Unwatched, read_edge_list_by,
+};
 use Delimiter::Tab;
-use ball_model::{CountingReader, Estimate};
+use ball_model::CountingReader;
 use std::alloc::AllocGlobal;
 use std::cell::Cell;
 use std::hash::RandomState;
@@ -260,23 +262,9 @@ struct Last {
     records: Cell<Option<u64>>,
 }
 
-impl Watch for Last {
+impl ReadWatch for Last {
     fn while_read(&self, records: u64) {
         self.records.set(Some(records));
-    }
-}
-
-// A job that so many threads work on.
-pub(super) fn job_by(threads: u16) -> JobOptions {
-    JobOptions {
-        log2m: 4,
-        seed: 0,
-        parts: 1,
-        limit: 9,
-        estimate: Estimate::Raw,
-        delimiter: Tab,
-        large: false,
-        threads,
     }
 }
 
@@ -285,13 +273,13 @@ fn records_by<R: AllocGlobal + Threads + Sync>(
     rt: &R,
     state: RandomState,
     text: &[u8],
-    threads: u16,
+    threads: usize,
 ) -> Option<(u64, Option<u64>)> {
     let watch = Last {
         records: Cell::new(None),
     };
     let mut reader = CountingReader::new(at_once(text));
-    match job_by(threads).read_network_by(rt, &watch, state, &mut reader, None) {
+    match read_edge_list_by(rt, &watch, state, &mut reader, Tab, LIMITS, threads) {
         Ok(read) => Some((read.records, watch.records.get())),
         Err(_) => None,
     }

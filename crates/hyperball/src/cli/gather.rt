@@ -10,14 +10,14 @@ ghost use Rattle.hyperball.specs.Words.{IsFlag};
 
 use crate::cli::Server;
 use crate::cli::arguments::{Texts, large, progress, subcommand_of, threads};
-use crate::cli::job::{USUAL, job_arguments, job_input_of, wants_large, wants_progress};
+use crate::cli::options::{USUAL, job_arguments, job_input_of, wants_large, wants_progress};
 use crate::progress::{Teller, TellingWatch};
 use ball_model::{CountedRead, CountedWrite};
 use clap::builder::ValueParser;
 use clap::{ArgMatches, Command};
+use job::JobInput;
 use node::error::GatherError;
 use node::gather::gather;
-use node::job::JobInput;
 use std::alloc::{AllocError, AllocGlobal, Global};
 use std::hash::RandomState;
 use std::thread::Threads;

@@ -11,13 +11,13 @@ ghost use Rattle.hyperball.specs.Words.{IsFlag};
 
 use crate::cli::Server;
 use crate::cli::arguments::{Texts, large, option, progress, subcommand_of};
-use crate::cli::job::{job_arguments, job_input_of, wants_large, wants_progress};
+use crate::cli::options::{job_arguments, job_input_of, wants_large, wants_progress};
 use crate::progress::{Teller, TellingWatch};
 use ball_model::{CountedRead, CountedWrite};
 use clap::builder::ValueParser;
 use clap::{ArgMatches, Command, value_parser};
+use job::JobInput;
 use node::error::ServeNodeError;
-use node::job::JobInput;
 use node::serve::serve_node;
 use std::alloc::{AllocError, AllocGlobal, Global};
 use std::hash::RandomState;

@@ -10,13 +10,13 @@ ghost use Rattle.hyperball.specs.Words.{IsFlag};
 
 use crate::cli::Server;
 use crate::cli::arguments::{Texts, option, progress, subcommand_of};
-use crate::cli::job::{PARTS_HELP, job_arguments, job_input_of, wants_progress};
+use crate::cli::options::{PARTS_HELP, job_arguments, job_input_of, wants_progress};
 use crate::progress::{Teller, TellingWatch};
 use crate::whole::{Form, Lack, WholeError, parts_of, read_whole};
 use ball_model::{CountedRead, CountedWrite};
 use clap::builder::ValueParser;
 use clap::{ArgMatches, Command, value_parser};
-use node::job::JobInput;
+use job::JobInput;
 use std::alloc::{AllocError, AllocGlobal, Global};
 use std::hash::RandomState;
 use thiserror::Error;

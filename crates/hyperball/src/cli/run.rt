@@ -18,7 +18,7 @@ ghost use Rattle.hyperball.specs.Words.{GivesLists, GivesOrders, GivesProgress, 
 ghost use Rattle.hyperball.specs.Words.{MisspellsLists, SpellLists};
 
 use crate::cli::arguments::{Argument, Texts, large, option, progress, subcommand_of, threads};
-use crate::cli::job::{USUAL, job_arguments, job_input_of, wants_large, wants_progress};
+use crate::cli::options::{USUAL, job_arguments, job_input_of, wants_large, wants_progress};
 use crate::cli::orders::{OrdersError, are_orders, orders_in};
 use crate::cli::{Server, WordsError};
 use crate::progress::{Teller, TellingGate};
@@ -26,8 +26,7 @@ use crate::whole::{Form, Lack, WholeError, parts_of, read_whole};
 use ball_model::{CountedRead, CountedWrite, NodeId};
 use clap::builder::ValueParser;
 use clap::{ArgMatches, Command, value_parser};
-use edgelist::Watch;
-use node::job::JobInput;
+use job::{JobInput, Watch};
 use std::alloc::{AllocError, AllocGlobal, Global};
 use std::hash::RandomState;
 use std::random::RandomSource;

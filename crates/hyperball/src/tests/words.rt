@@ -12,8 +12,8 @@ use crate::laws::{
 };
 use crate::whole::WholeError;
 use ball_model::{Estimate, NodeId, PlanError};
-use edgelist::{CountedError, Delimiter, EdgeError, JobOptions};
-use node::job::JobInput;
+use edgelist::{CountedError, Delimiter, EdgeError};
+use job::{JobInput, JobOptions};
 use std::fmt::Display;
 use std::io::Write;
 use workers::RunError;

@@ -4,6 +4,7 @@ use super::vectors::{FIRST_END, SECOND_END};
 use super::*;
 use crate::gather::gather;
 use ball_model::NodeId;
+use edgelist::ReadWatch;
 use std::alloc::{AllocError, AllocGlobal};
 use std::random::RandomSource;
 use std::sync::atomic::{AtomicU64, Ordering};
@@ -37,6 +38,8 @@ impl Digits {
         );
     }
 }
+
+impl ReadWatch for Digits {}
 
 impl Watch for Digits {
     fn after_read(&self, records: u64, vertices: u32) {

@@ -3,7 +3,8 @@
 use super::runs::{USUAL, options_of};
 use super::*;
 use ball_model::{MemReader, MemWriter};
-use edgelist::Watch;
+use edgelist::ReadWatch;
+use job::Watch;
 use std::sync::atomic::AtomicU64;
 
 /// A gate that notes the numbers that it is called with, a digit each, one after the other.
@@ -28,6 +29,8 @@ impl Gate for Digits {
 
     fn idle(&self, _node: NodeId) {}
 }
+
+impl ReadWatch for Digits {}
 
 impl Watch for Digits {
     fn after_read(&self, records: u64, vertices: u32) {

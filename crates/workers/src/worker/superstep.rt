@@ -28,7 +28,7 @@ use crate::worker::Worker;
 use crate::worker::node_run::NodeError;
 use ball_model::BatchName;
 use batches::Batch;
-use edgelist::Watch;
+use job::Watch;
 use replica::{ChangedRows, Replica, Shown, Snapshot};
 use std::alloc::{AllocError, AllocGlobal, Global};
 use std::sync::{Arc, Wait};

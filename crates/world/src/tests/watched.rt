@@ -3,7 +3,8 @@
 use super::replays::options;
 use crate::replay::{ReplayError, replay_watched};
 use ball_model::{MemWriter, NodeId, PlanError};
-use edgelist::Watch;
+use edgelist::ReadWatch;
+use job::Watch;
 use std::alloc::AllocGlobal;
 use std::hash::RandomState;
 use std::sync::atomic::{AtomicU64, Ordering};
@@ -24,6 +25,8 @@ impl Digits {
         );
     }
 }
+
+impl ReadWatch for Digits {}
 
 impl Watch for Digits {
     fn after_read(&self, records: u64, vertices: u32) {

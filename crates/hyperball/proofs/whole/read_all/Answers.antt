@@ -1,7 +1,7 @@
 use Rattle.std.proofs.Common.{◌+◌, ◌++◌, ℕ, List, length, take, drop, refl, le_refl, arith}
 use Rattle.std.proofs.lemmas.List.{length-append, length-take}
 use Rattle.std.proofs.lemmas.Result.{err_from_is_err_and}
-use Rattle.node.specs.declared.limits.TheConstants.{MOST_BYTES}
+use Rattle.job.specs.declared.limits.TheConstants.{MOST_BYTES}
 use Rattle.hyperball.proofs.WholeLemmas.{read_lost, taken_within}
 use Rattle.hyperball.proofs.whole.read_all.Goals as goal
 

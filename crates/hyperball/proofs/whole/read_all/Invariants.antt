@@ -1,5 +1,5 @@
 use Rattle.std.proofs.Common.{◌≡◌, ◌+◌, ◌-◌, length, None}
-use Rattle.node.specs.declared.limits.TheConstants.{MOST_BYTES}
+use Rattle.job.specs.declared.limits.TheConstants.{MOST_BYTES}
 use Rattle.hyperball.proofs.WholeLemmas.{HasRead}
 use Rattle.hyperball.proofs.whole.read_all.Given as goal
 

@@ -1,6 +1,6 @@
 use Rattle.std.proofs.Common.{◌≡◌, take, drop}
 use Rattle.ball_model.specs.Sections.{sections_from, sections_of}
-use Rattle.world.proofs.ScriptLemmas.{behind}
+use Rattle.job.proofs.SectionLemmas.{behind}
 use Rattle.hyperball.proofs.whole.sections.Given as goal
 
 abbrev pub invariant-loop-i : goal.invariant-loop-i

@@ -1,9 +1,8 @@
-use Rattle.std.proofs.lemmas.Result.{on_ok_weaker}
+use Rattle.std.proofs.lemmas.Result.{on_ok_weaker, IfErr-at_err, IfErr-weaker, err_from_is_err_and, on_err_weaker}
 use Rattle.ball_model.specs.Job.{job_of}
 use Rattle.node.specs.Gathering.{Gathers}
 use Rattle.std.proofs.Common.{refl, inl, inr}
-use Rattle.std.proofs.lemmas.Result.{IfErr-at_err, IfErr-weaker, err_from_is_err_and, on_err_weaker}
-use Rattle.edgelist.specs.Job.{settings_of}
+use Rattle.job.specs.Job.{settings_of}
 use Rattle.node.specs.NoReport.{HasNoReport, IsNoReport, WritesFront}
 use Rattle.node.proofs.GatherLemmas.{front_of_job}
 use Rattle.node.proofs.gather.gather.Goals as goal

@@ -3,7 +3,7 @@ use Rattle.std.specs.Io.KnownBytes.{Consumes}
 use Rattle.std.proofs.KnownBytes.{Consumes-trans}
 use Rattle.std.proofs.lemmas.List.Elements.{All-push}
 use Rattle.node.specs.Stream.{HasNoEnd}
-use Rattle.node.specs.declared.section.NextByte.TheVariants as next
+use Rattle.job.specs.declared.section.NextByte.TheVariants as next
 use Rattle.node.proofs.StreamLemmas.{byte_read}
 use Rattle.node.proofs.input.read_line.Goals as goal
 

@@ -1,8 +1,8 @@
 use Rattle.std.proofs.Common.{◌∙◌, Option, List, ℕ, inl, sym, subst}
-use Rattle.edgelist.specs.Job.{settings_of}
-use Rattle.node.specs.Job.{IsJobRead}
+use Rattle.job.specs.Job.{settings_of}
+use Rattle.job.specs.Input.{IsJobRead}
 use Rattle.node.specs.NoJob.{HasNoNode}
-use Rattle.node.specs.declared.error.JobInputError.{JobInputError}
+use Rattle.job.specs.declared.error.JobInputError.{JobInputError}
 use Rattle.node.proofs.JobLemmas.{no_start, told_job}
 use Rattle.node.proofs.serve.serve_node.Goals as goal
 

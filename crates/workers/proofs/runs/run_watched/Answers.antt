@@ -4,10 +4,10 @@ use Rattle.std.specs.Prelude.{Result, Ok, Err}
 use Rattle.ball_model.specs.PlanValue.{PlanValue}
 use Rattle.ball_model.specs.RunText.{HasPlan, IsReport, plan_asked}
 use Rattle.ball_model.specs.declared.plan.PlanError.{PlanError}
-use Rattle.edgelist.specs.Job.{numbers_asked, settings_of}
+use Rattle.job.specs.Job.{numbers_asked, settings_of}
 use Rattle.graph.specs.Planning.{signed}
-use Rattle.edgelist.specs.declared.job.JobOptions.{JobOptions}
-use Rattle.edgelist.specs.declared.job.NetworkError.{NetworkError}
+use Rattle.job.specs.declared.job.JobOptions.{JobOptions}
+use Rattle.job.specs.declared.job.NetworkError.{NetworkError}
 use Rattle.edgelist.specs.declared.limits.EdgeError.TheVariants as edge
 use Rattle.workers.specs.declared.ends.JobError.{JobError}
 use Rattle.workers.specs.declared.runs.RunError.{RunError}

@@ -1,6 +1,6 @@
 use Rattle.std.proofs.Common.{◌≡◌, take, drop}
 use Rattle.world.specs.Script.{cut_of}
-use Rattle.world.proofs.ScriptLemmas.{behind}
+use Rattle.job.proofs.SectionLemmas.{behind}
 use Rattle.world.proofs.script.cut.Given as goal
 
 abbrev pub invariant-loop-i : goal.invariant-loop-i

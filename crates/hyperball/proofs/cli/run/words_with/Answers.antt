@@ -1,7 +1,7 @@
 use Rattle.std.proofs.Common.{◌≡◌, ◌∙◌, ap, codes}
 use Rattle.std.specs.Str.Parse.{ExplainsUnsignedError, HasUnsignedDigitsIfOk}
 use Rattle.clap.specs.Words.{found_of}
-use Rattle.node.specs.declared.job.JobInput.{JobInput}
+use Rattle.job.specs.declared.input.JobInput.{JobInput}
 use Rattle.hyperball.specs.Words.{run_input}
 use Rattle.hyperball.proofs.OptionLemmas.{number_is, same_words}
 use Rattle.hyperball.proofs.cli.run.words_with.Goals as goal

@@ -2,7 +2,8 @@ use Rattle.std.proofs.Common.{◌≡◌, ◌∙◌, ap, sym}
 use Rattle.std.specs.Arc.{arc_value}
 use Rattle.ball_model.specs.Job.{part_of}
 use Rattle.ball_model.specs.State.{State}
-use Rattle.node.proofs.SessionLemmas.{job_held, no_bytes, part_held, started_holds}
+use Rattle.job.proofs.SectionLemmas.{no_bytes}
+use Rattle.node.proofs.SessionLemmas.{job_held, part_held, started_holds}
 use Rattle.node.proofs.session.Session.restored.Goals as goal
 
 pub returns-in_ok-started-clause-anew : goal.returns-in_ok-started-clause-anew

@@ -1,0 +1,3 @@
+pub mod SectionLemmas
+pub mod JobLemmas
+pub mod InputLemmas

@@ -1,0 +1,5 @@
+pub mod Stream
+pub mod Section
+pub mod Job
+pub mod Input
+pub mod NoJob
