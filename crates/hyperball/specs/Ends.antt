@@ -27,13 +27,12 @@ use Rattle.hyperball.specs.declared.cli.run.RunWords.{RunWords}
 use Rattle.hyperball.specs.declared.serve.Fault.{Fault}
 use Rattle.hyperball.specs.declared.serve.Fault.TheVariants as unserved
 use Rattle.node.specs.Gathering.{GathersJob}
-use Rattle.node.specs.NoJob.{HasNoNode}
+use Rattle.node.specs.NoNode.{HasNoNode, IsNoNode}
 use Rattle.node.specs.NoReport.{HasNoReport, IsUnwritten, WritesFrontOfJob}
 use Rattle.node.specs.Serving.{IsOfMachine, ServesNode, StopsNode, WantsNode}
 use Rattle.node.specs.declared.error.GatherError.{GatherError}
 use Rattle.node.specs.declared.error.GatherError.TheVariants as gather
-use Rattle.job.specs.declared.error.JobInputError.{JobInputError}
-use Rattle.job.specs.declared.error.JobInputError.TheVariants as job
+use Rattle.job.specs.declared.error.InputError.TheVariants as job
 use Rattle.node.specs.declared.error.ServeError.{ServeError}
 use Rattle.node.specs.declared.error.ServeError.TheVariants as answer
 use Rattle.node.specs.declared.error.ServeNodeError.{ServeNodeError}
@@ -70,8 +69,8 @@ FailsRun v r w (unrun.Job e) = FailsJob v.options v.counted r w e
 
 -- a node ends with this fault: which it is of the job or of its requests, what was answered before, and which calls failed
 pub record FailsNode (v : NodeWords) (r : Reads) (w : Writes) (f : ServeNodeError) : Type 0 where
-  pub jobless : (e : JobInputError) → f ≡ node.Job e →
-      HasNoNode (settings_of v.job.options) v.job.counted v.part r.bytes.old r.bytes.new e
+  pub jobless : IsNoNode f →
+      HasNoNode (settings_of v.job.options) v.job.counted v.part r.bytes.old r.bytes.new f
       × Keeps w.contents.old w.contents.new
   pub stopped : (e : ServeError) → f ≡ node.Serve e → (IsOfMachine e → ⊥) →
       StopsNode (settings_of v.job.options) v.job.counted v.part e r.bytes.old r.bytes.new

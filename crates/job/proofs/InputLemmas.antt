@@ -13,8 +13,8 @@ use Rattle.edgelist.specs.declared.limits.EdgeError.TheVariants as unread
 use Rattle.edgelist.specs.Given.{IsGivenUnder}
 use Rattle.edgelist.specs.declared.pieces.EdgeReader.{EdgeReader}
 use Rattle.graph.specs.declared.delimiter.Delimiter.{Delimiter}
-use Rattle.job.specs.declared.error.JobInputError.{JobInputError}
-use Rattle.job.specs.declared.error.JobInputError.TheVariants as nojob
+use Rattle.job.specs.declared.error.InputError.{InputError}
+use Rattle.job.specs.declared.error.InputError.TheVariants as nojob
 use Rattle.job.specs.Input.{CountsSome, GivesAll, GivesEdges, GivesSection, IsPlanned, SaysNetwork}
 use Rattle.job.specs.NoJob.{GoesBeyond, IsNoJob, IsNoNetwork, IsRefused, IsUnplanned, LacksListMark, LacksMark}
 use Rattle.job.specs.declared.limits.TheConstants.{MOST_BYTES}
@@ -162,7 +162,7 @@ goes_beyond list begins c (Some text) y z p one =
     omega (arith, is, length-append list (c ∷ goes.more))
 
 -- ---- the plan is refused
-pub unplanned : (s : Settings) (counted : Bool) (x y z : Option (List ℕ)) (all network : Network) (e : JobInputError) → SaysNetwork s x y all → CountsSome s counted y z all network → IsUnplanned (plan_asked s.numbers network.graph) e →
+pub unplanned : (s : Settings) (counted : Bool) (x y z : Option (List ℕ)) (all network : Network) (e : InputError) → SaysNetwork s x y all → CountsSome s counted y z all network → IsUnplanned (plan_asked s.numbers network.graph) e →
     IsNoJob s counted x z e
 unplanned s counted x y z all network (nojob.Plan e) edges list due = record { all = all; network = network; mid = y; edges = edges; list = list; refused = due }
 unplanned s counted x y z all network e edges list due = absurd due

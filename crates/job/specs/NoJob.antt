@@ -10,8 +10,8 @@ use Rattle.edgelist.specs.Reading.{Refuses}
 use Rattle.graph.specs.declared.counting.CountedError.{CountedError}
 use Rattle.edgelist.specs.declared.limits.EdgeError.{EdgeError}
 use Rattle.edgelist.specs.declared.limits.EdgeError.TheVariants as unread
-use Rattle.job.specs.declared.error.JobInputError.{JobInputError}
-use Rattle.job.specs.declared.error.JobInputError.TheVariants as fault
+use Rattle.job.specs.declared.error.InputError.{InputError}
+use Rattle.job.specs.declared.error.InputError.TheVariants as fault
 use Rattle.job.specs.declared.limits.TheConstants.{MOST_BYTES}
 use Rattle.job.specs.Input.{CountsSome, SaysNetwork}
 use Rattle.job.specs.Section.{HasNoMark, ReadsSection, before_mark}
@@ -31,7 +31,7 @@ pub record LacksMark (says : List ℕ → Result Network Refusal) (left : Option
     pub fine : IfSome left (λ text. IsPlain text → IsOk (says text))
 
 -- so it is refused, or there is no mark; of want of memory and a failed read nothing is said
-abbrev pub IsNoNetwork : (List ℕ → Result Network Refusal) → Option (List ℕ) → JobInputError →
+abbrev pub IsNoNetwork : (List ℕ → Result Network Refusal) → Option (List ℕ) → InputError →
     Type 0
 IsNoNetwork says left (fault.Edges e) = IsRefused says left e
 IsNoNetwork says left fault.NoMark = LacksMark says left
@@ -47,7 +47,7 @@ pub record LacksListMark (left : Option (List ℕ)) : Type 0 where
   pub few : IfSome left (λ text. length text ≤ MOST_BYTES)
 
 -- so it is, or more bytes than a list may have are before a mark
-abbrev pub IsUnlisted : Option (List ℕ) → JobInputError → Type 0
+abbrev pub IsUnlisted : Option (List ℕ) → InputError → Type 0
 IsUnlisted left fault.NoListMark = LacksListMark left
 IsUnlisted left fault.ListSize = IfSome left (λ text. MOST_BYTES < length (before_mark text))
 IsUnlisted left fault.Memory = ⊤
@@ -63,13 +63,13 @@ pub record IsMiscounted (s : Settings) (left : Option (List ℕ)) (all : Network
   pub few : length list ≤ MOST_BYTES
   pub refuses : IsPlain list → RefusesList (counted_of s.delimiter all list) e
 
-abbrev pub IsUncounted : Settings → Option (List ℕ) → Network → JobInputError → Type 0
+abbrev pub IsUncounted : Settings → Option (List ℕ) → Network → InputError → Type 0
 IsUncounted s left all (fault.Counted e) = IsMiscounted s left all e
 IsUncounted s left all e = IsUnlisted left e
 
 -- the edge list says a network, and the list after it is refused so
 pub record HasNoCount (s : Settings) (counted : Bool) (left : Option (List ℕ))
-    (e : JobInputError) : Type 0 where
+    (e : InputError) : Type 0 where
   pub asked : counted ≡ true
   pub all : Network
   pub mid : Option (List ℕ)
@@ -82,7 +82,7 @@ GoesBeyond n left = IfSome left (λ text. n < length (before_mark text))
 
 -- ---- the plan
 -- there is no plan for these numbers over a graph, for this fault
-abbrev pub IsUnplanned : Result PlanValue PlanError → JobInputError → Type 0
+abbrev pub IsUnplanned : Result PlanValue PlanError → InputError → Type 0
 IsUnplanned asked (fault.Plan e) = asked ≡ Err e
 IsUnplanned asked e = ⊥
 
@@ -98,7 +98,7 @@ pub record HasNoPlan (s : Settings) (counted : Bool) (left left' : Option (List 
 
 -- ---- the job
 -- the input says no job, for this fault
-abbrev pub IsNoJob : Settings → Bool → Option (List ℕ) → Option (List ℕ) → JobInputError → Type 0
+abbrev pub IsNoJob : Settings → Bool → Option (List ℕ) → Option (List ℕ) → InputError → Type 0
 IsNoJob s counted left left' (fault.Edges e) = IsRefused (network_in s) left e
 IsNoJob s counted left left' fault.NoMark = LacksMark (network_in s) left
 IsNoJob s counted left left' fault.EdgesSize = IsNoNetwork (network_in s) left fault.EdgesSize
@@ -106,6 +106,5 @@ IsNoJob s counted left left' fault.NoListMark = HasNoCount s counted left fault.
 IsNoJob s counted left left' fault.ListSize = HasNoCount s counted left fault.ListSize
 IsNoJob s counted left left' (fault.Counted e) = HasNoCount s counted left (fault.Counted e)
 IsNoJob s counted left left' (fault.Plan e) = HasNoPlan s counted left left' e
-IsNoJob s counted left left' fault.Part = ⊥
 IsNoJob s counted left left' fault.Memory = ⊤
 IsNoJob s counted left left' fault.Read = ⊤

@@ -9,7 +9,7 @@ use thiserror::Error;
 
 /// Why there is no job, in the order of the checks.
 #[derive(Clone, Copy, Debug, PartialEq, Eq, Error)]
-pub enum JobInputError {
+pub enum InputError {
     /// The edge list is refused.
     #[error("{0}")]
     Edges(EdgeError),
@@ -31,9 +31,6 @@ pub enum JobInputError {
     /// There is no such plan.
     #[error("{0}")]
     Plan(PlanError),
-    /// There is no such partition.
-    #[error("there is no such partition")]
-    Part,
     /// Memory was refused.
     #[error("out of memory")]
     Memory,
@@ -42,42 +39,42 @@ pub enum JobInputError {
     Read,
 }
 
-impl From<EdgeError> for JobInputError {
-    ghost use Rattle.job.specs.declared.error.JobInputError.TheVariants.{Edges};
+impl From<EdgeError> for InputError {
+    ghost use Rattle.job.specs.declared.error.InputError.TheVariants.{Edges};
 
     ghost from_gives = { λ fault e. e ≡ Edges fault };
 
-    fn from(fault: EdgeError) -> JobInputError {
-        JobInputError::Edges(fault)
+    fn from(fault: EdgeError) -> InputError {
+        InputError::Edges(fault)
     }
 }
 
-impl From<CountedError> for JobInputError {
-    ghost use Rattle.job.specs.declared.error.JobInputError.TheVariants.{Counted};
+impl From<CountedError> for InputError {
+    ghost use Rattle.job.specs.declared.error.InputError.TheVariants.{Counted};
 
     ghost from_gives = { λ fault e. e ≡ Counted fault };
 
-    fn from(fault: CountedError) -> JobInputError {
-        JobInputError::Counted(fault)
+    fn from(fault: CountedError) -> InputError {
+        InputError::Counted(fault)
     }
 }
 
-impl From<PlanError> for JobInputError {
-    ghost use Rattle.job.specs.declared.error.JobInputError.TheVariants.{Plan};
+impl From<PlanError> for InputError {
+    ghost use Rattle.job.specs.declared.error.InputError.TheVariants.{Plan};
 
     ghost from_gives = { λ fault e. e ≡ Plan fault };
 
-    fn from(fault: PlanError) -> JobInputError {
-        JobInputError::Plan(fault)
+    fn from(fault: PlanError) -> InputError {
+        InputError::Plan(fault)
     }
 }
 
-impl From<AllocError> for JobInputError {
-    ghost use Rattle.job.specs.declared.error.JobInputError.TheVariants.{Memory};
+impl From<AllocError> for InputError {
+    ghost use Rattle.job.specs.declared.error.InputError.TheVariants.{Memory};
 
     ghost from_gives = { λ _ e. e ≡ Memory };
 
-    fn from(_fault: AllocError) -> JobInputError {
-        JobInputError::Memory
+    fn from(_fault: AllocError) -> InputError {
+        InputError::Memory
     }
 }

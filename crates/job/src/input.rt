@@ -17,7 +17,7 @@ ghost use Rattle.job.specs.NoJob.{IsUnplanned};
 ghost use Rattle.job.specs.Section.{ReadsSection};
 ghost use Rattle.job.specs.Stream.{FailsAs};
 
-use crate::error::JobInputError;
+use crate::error::InputError;
 use crate::job::JobOptions;
 use crate::limits::MOST_BYTES;
 use crate::section::{Cut, SectionStep, next_step};
@@ -41,7 +41,7 @@ fn give_section<R: CountedRead>(
     alloc: Global,
     reader: &mut R,
     edges: &mut EdgeReader,
-) -> Result<bool, JobInputError>
+) -> Result<bool, InputError>
     ensures given { (limits : Limits) (delimiter : Delimiter) →
         IsGivenUnder limits delimiter [] edges.old →
         IfOk result (GivesEdges limits delimiter
@@ -49,7 +49,7 @@ fn give_section<R: CountedRead>(
     ensures refused { (limits : Limits) (delimiter : Delimiter) →
         IsGivenUnder limits delimiter [] edges.old →
         IfErr result (IsNoNetwork (meaning_under limits delimiter) (R.remaining reader.old)) }
-    ensures failed { FailsAs R.failed_calls reader.old reader.new result (Err JobInputError.Read) }
+    ensures failed { FailsAs R.failed_calls reader.old reader.new result (Err InputError.Read) }
 {
     let mut cut = Cut::start();
     for _count in 0..u64::MAX {
@@ -57,21 +57,21 @@ fn give_section<R: CountedRead>(
             SectionStep::Byte(byte) => edges.add(alloc, byte)?,
             SectionStep::Mark => return Ok(true),
             SectionStep::End => return Ok(false),
-            SectionStep::Failed => return Err(JobInputError::Read),
+            SectionStep::Failed => return Err(InputError::Read),
         }
     }
-    Err(JobInputError::EdgesSize)
+    Err(InputError::EdgesSize)
 }
 
 // A mark is wanted after an edge list that was read. It takes no memory.
-fn need_mark(marked: bool) -> Result<(), JobInputError>
+fn need_mark(marked: bool) -> Result<(), InputError>
     ensures ok { OnOk result (marked ≡ true) }
-    ensures none { IfErr result (λ e. (marked ≡ false) × (e ≡ JobInputError.NoMark)) }
+    ensures none { IfErr result (λ e. (marked ≡ false) × (e ≡ InputError.NoMark)) }
 {
     if marked {
         Ok(())
     } else {
-        Err(JobInputError::NoMark)
+        Err(InputError::NoMark)
     }
 }
 
@@ -81,14 +81,14 @@ fn read_edge_section<R: CountedRead>(
     state: RandomState,
     job: &JobInput,
     reader: &mut R,
-) -> Result<EdgeList, JobInputError>
+) -> Result<EdgeList, InputError>
     ensures says { IfOk result (λ read. SaysNetwork (settings_of job.now.options)
         (R.remaining reader.old) (R.remaining reader.new) read.graph) }
     ensures count { IfOk result (λ read. HasRecords (settings_of job.now.options)
         (R.remaining reader.old) read.records) }
     ensures refused { IfErr result (IsNoNetwork (network_in (settings_of job.now.options))
         (R.remaining reader.old)) }
-    ensures failed { FailsAs R.failed_calls reader.old reader.new result (Err JobInputError.Read) }
+    ensures failed { FailsAs R.failed_calls reader.old reader.new result (Err InputError.Read) }
 {
     let mut edges = job.options.reader(alloc, state)?;
     let marked = give_section(alloc, reader, &mut edges)?;
@@ -103,31 +103,31 @@ fn read_edge_section<R: CountedRead>(
 }
 
 // Reads the bytes of a section, which ends at a mark, into `list`, which is empty.
-fn read_list<R: CountedRead>(reader: &mut R, list: &mut Vec<u8>) -> Result<(), JobInputError>
+fn read_list<R: CountedRead>(reader: &mut R, list: &mut Vec<u8>) -> Result<(), InputError>
     requires { list.old.items ≡ [] }
     ensures read { OnOk result (ReadsSection list.new.items
         (R.remaining reader.old) (R.remaining reader.new)) }
     ensures few { OnOk result (length list.new.items ≤ MOST_BYTES) }
     ensures refused { IfErr result (IsUnlisted (R.remaining reader.old)) }
-    ensures memory { result ≡ Err JobInputError.Memory →
+    ensures memory { result ≡ Err InputError.Memory →
         GoesBeyond (length list.new.items) (R.remaining reader.old) }
-    ensures room { result ≡ Err JobInputError.Memory → length list.new.items ≤ MOST_BYTES }
-    ensures failed { FailsAs R.failed_calls reader.old reader.new result (Err JobInputError.Read) }
+    ensures room { result ≡ Err InputError.Memory → length list.new.items ≤ MOST_BYTES }
+    ensures failed { FailsAs R.failed_calls reader.old reader.new result (Err InputError.Read) }
 {
     let mut cut = Cut::start();
     while list.len() <= MOST_BYTES {
         match next_step(reader, &mut cut) {
             SectionStep::Byte(byte) => {
                 let Ok(()) = list.push(byte) else {
-                    return Err(JobInputError::Memory);
+                    return Err(InputError::Memory);
                 };
             }
             SectionStep::Mark => return Ok(()),
-            SectionStep::End => return Err(JobInputError::NoListMark),
-            SectionStep::Failed => return Err(JobInputError::Read),
+            SectionStep::End => return Err(InputError::NoListMark),
+            SectionStep::Failed => return Err(InputError::Read),
         }
     }
-    Err(JobInputError::ListSize)
+    Err(InputError::ListSize)
 }
 
 // Counts only the vertices of a list, if there is one.
@@ -136,13 +136,13 @@ fn count_section<R: CountedRead>(
     graph: &mut Graph,
     job: &JobInput,
     reader: &mut R,
-) -> Result<(), JobInputError>
+) -> Result<(), InputError>
     ensures counts { OnOk result (CountsSome (settings_of job.now.options) job.now.counted
         (R.remaining reader.old) (R.remaining reader.new) graph.old graph.new) }
     ensures asked { IsErr result → job.now.counted ≡ true }
     ensures refused { IfErr result (IsUncounted (settings_of job.now.options)
         (R.remaining reader.old) graph.old) }
-    ensures failed { FailsAs R.failed_calls reader.old reader.new result (Err JobInputError.Read) }
+    ensures failed { FailsAs R.failed_calls reader.old reader.new result (Err InputError.Read) }
 {
     if !job.counted {
         return Ok(());
@@ -154,7 +154,7 @@ fn count_section<R: CountedRead>(
 }
 
 // The plan over a graph, or the first fault of the options. It takes no memory.
-fn plan_for(graph: &Graph, job: &JobInput) -> Result<Plan, JobInputError>
+fn plan_for(graph: &Graph, job: &JobInput) -> Result<Plan, InputError>
     ensures value { IfOk result (λ plan.
         Ok plan ≡ plan_asked (numbers_asked job.now.options) graph.now.graph) }
     ensures job { IfOk result (λ plan. IsJob (job_of graph.now.graph plan)) }
@@ -186,7 +186,7 @@ pub fn read_job<R: CountedRead>(
     state: RandomState,
     job: &JobInput,
     reader: &mut R,
-) -> Result<(Graph, Plan, u64), JobInputError>
+) -> Result<(Graph, Plan, u64), InputError>
     ensures read { IfOk result (λ all. IsJobRead (settings_of job.now.options) job.now.counted
         (R.remaining reader.old) (R.remaining reader.new) all.0 all.1) }
     ensures job { IfOk result (λ all. IsJob (job_of all.0.graph all.1)) }
@@ -194,9 +194,9 @@ pub fn read_job<R: CountedRead>(
         (R.remaining reader.old) all.2) }
     ensures refused { IfErr result (IsNoJob (settings_of job.now.options) job.now.counted
         (R.remaining reader.old) (R.remaining reader.new)) }
-    ensures failed { result ≡ Err JobInputError.Read →
+    ensures failed { result ≡ Err InputError.Read →
         RisesByOne (R.failed_calls reader.old) (R.failed_calls reader.new) }
-    ensures counted { result ≢ Err JobInputError.Read →
+    ensures counted { result ≢ Err InputError.Read →
         R.failed_calls reader.new ≡ R.failed_calls reader.old }
 {
     let mut read = read_edge_section(alloc, state, job, reader)?;

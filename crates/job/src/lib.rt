@@ -20,7 +20,7 @@ mod section;
 mod watch;
 
 pub use edgelist::Unwatched;
-pub use error::JobInputError;
+pub use error::InputError;
 pub use input::{JobInput, part_of, read_job};
 pub use job::{JobOptions, NetworkError};
 pub use limits::MOST_BYTES;

@@ -3,7 +3,7 @@ pub mod StepLemmas
 pub mod ServeLemmas
 pub mod CommandLemmas
 pub mod GatherLemmas
-pub mod JobLemmas
+pub mod NodeLemmas
 pub mod AnswerLemmas
 pub mod LawLemmas
 pub mod StreamLemmas

@@ -2,7 +2,7 @@ pub mod NodeText
 pub mod Stream
 pub mod Turns
 pub mod Refusals
-pub mod NoJob
+pub mod NoNode
 pub mod Serving
 pub mod Laws
 pub mod Gathering

@@ -15,7 +15,7 @@ use Rattle.report.specs.Ready.{are_ready, job_report}
 use Rattle.world.specs.Script.{cut_of}
 use Rattle.node.specs.declared.error.GatherError.{GatherError}
 use Rattle.node.specs.declared.error.GatherError.TheVariants as fault
-use Rattle.job.specs.declared.error.JobInputError.{JobInputError}
+use Rattle.job.specs.declared.error.InputError.{InputError}
 use Rattle.node.specs.Gathering.{AreGivenBack, AreOfAnEnd, AreCheckpointsFrom, ReadsAll, part_line, part_text, parts_text}
 use Rattle.job.specs.Input.{IsJobRead}
 use Rattle.job.specs.NoJob.{IsNoJob}
@@ -167,7 +167,7 @@ pub record StopsAfterJob (s : Settings) (counted : Bool) (left left' : Option (L
 -- or the input says no job
 abbrev pub HasNoReport : Settings → Bool → Option (List ℕ) → Option (List ℕ) → GatherError → Type 0
 HasNoReport s counted left left' e =
-    ((x : JobInputError) × (e ≡ fault.Job x) × IsNoJob s counted left left' x)
+    ((x : InputError) × (e ≡ fault.Job x) × IsNoJob s counted left left' x)
     ⊎ StopsAfterJob s counted left left' e
 
 -- ---- what was written

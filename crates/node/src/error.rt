@@ -3,7 +3,7 @@
 ghost use Rattle.std.specs.Prelude.{◌≡◌};
 
 use checkpoint::KeepError;
-use job::JobInputError;
+use job::InputError;
 use report::ReportError;
 use std::alloc::AllocError;
 use thiserror::Error;
@@ -53,19 +53,33 @@ impl From<TellError> for ServeError {
 pub enum ServeNodeError {
     /// It has no job.
     #[error("{0}")]
-    Job(JobInputError),
+    Job(InputError),
+    /// There is no such partition.
+    #[error("there is no such partition")]
+    Part,
     /// It gives up its commands.
     #[error("{0}")]
     Serve(ServeError),
 }
 
-impl From<JobInputError> for ServeNodeError {
+impl From<InputError> for ServeNodeError {
     ghost use Rattle.node.specs.declared.error.ServeNodeError.TheVariants.{Job};
 
     ghost from_gives = { λ fault e. e ≡ Job fault };
 
-    fn from(fault: JobInputError) -> ServeNodeError {
+    fn from(fault: InputError) -> ServeNodeError {
         ServeNodeError::Job(fault)
+    }
+}
+
+impl From<AllocError> for ServeNodeError {
+    ghost use Rattle.job.specs.declared.error.InputError.TheVariants.{Memory};
+    ghost use Rattle.node.specs.declared.error.ServeNodeError.TheVariants.{Job};
+
+    ghost from_gives = { λ _ e. e ≡ Job Memory };
+
+    fn from(_fault: AllocError) -> ServeNodeError {
+        ServeNodeError::Job(InputError::Memory)
     }
 }
 
@@ -84,7 +98,7 @@ impl From<ServeError> for ServeNodeError {
 pub enum GatherError {
     /// There is no job.
     #[error("{0}")]
-    Job(JobInputError),
+    Job(InputError),
     /// The input ends before the checkpoint of this partition.
     #[error("no checkpoint of partition {part}")]
     Missing { part: u16 },
@@ -117,12 +131,12 @@ pub enum GatherError {
     Write,
 }
 
-impl From<JobInputError> for GatherError {
+impl From<InputError> for GatherError {
     ghost use Rattle.node.specs.declared.error.GatherError.TheVariants.{Job};
 
     ghost from_gives = { λ fault e. e ≡ Job fault };
 
-    fn from(fault: JobInputError) -> GatherError {
+    fn from(fault: InputError) -> GatherError {
         GatherError::Job(fault)
     }
 }

@@ -17,7 +17,7 @@ ghost use Rattle.node.specs.NoReport.{HasNoReport, IsNoReplica, IsNoReport, IsUn
 ghost use Rattle.node.specs.NoReport.{WritesFront, WritesFrontOfJob, checkpoint_fault, part_length};
 ghost use Rattle.job.specs.Stream.{FailsAs};
 ghost use Rattle.node.specs.Stream.{ReadsInLine};
-ghost use Rattle.job.specs.declared.error.JobInputError.TheVariants as no_job;
+ghost use Rattle.job.specs.declared.error.InputError.TheVariants as no_job;
 
 use crate::command::size;
 use crate::error::GatherError;

@@ -12,12 +12,11 @@ ghost use Rattle.ball_model.specs.WorldText.{refusal_line};
 ghost use Rattle.node.specs.NodeText.{body_length, sent_text};
 ghost use Rattle.job.specs.Job.{settings_of};
 ghost use Rattle.job.specs.Input.{IsJobRead};
-ghost use Rattle.node.specs.NoJob.{HasNoNode, IsNoStart};
+ghost use Rattle.node.specs.NoNode.{HasNoNode, IsNoNode, IsNoStart};
 ghost use Rattle.node.specs.Serving.{IsNoRequest, IsOfMachine, ReadsCommand, ReadsRequest};
 ghost use Rattle.node.specs.Serving.{ServesRest};
 ghost use Rattle.node.specs.Serving.{ServesNode, ServesNone, ServesOne, Steps, StopsServing};
 ghost use Rattle.node.specs.Serving.{StopsNode, StopsWanting, WantsNode};
-ghost use Rattle.job.specs.declared.error.JobInputError.{JobInputError as NoJob};
 ghost use Rattle.node.specs.declared.error.ServeError.{ServeError as Fault};
 ghost use Rattle.job.specs.Stream.{FailsAs};
 ghost use Rattle.node.specs.Stream.{CutsBody, NoLine, ReadsBody};
@@ -37,7 +36,7 @@ use ball_model::{CountedRead, CountedWrite, NodeId, Plan};
 use batches::Batch;
 use checkpoint::{checkpoint_length, write_checkpoint};
 use edgelist::{Graph, Part};
-use job::{JobInput, JobInputError, Watch, part_of, read_job};
+use job::{InputError, JobInput, Watch, part_of, read_job};
 use replica::{Replica, Shown};
 use report::totals_text;
 use std::alloc::Global;
@@ -316,7 +315,7 @@ fn flush<W: CountedWrite>(writer: &mut W) -> Result<(), TellError>
 }
 
 // A node of a partition of a job, at its start.
-fn start(alloc: Global, graph: &Graph, plan: &Plan, part: u16) -> Result<Session, JobInputError>
+fn start(alloc: Global, graph: &Graph, plan: &Plan, part: u16) -> Result<Session, ServeNodeError>
     requires { IsJob (job_of graph.now.graph plan.now) }
     ensures part { IfOk result (λ _. part < plan.now.parts) }
     ensures start { IfOk result (Holds (job_of graph.now.graph plan.now) part
@@ -325,7 +324,7 @@ fn start(alloc: Global, graph: &Graph, plan: &Plan, part: u16) -> Result<Session
     ensures refused { IfErr result (IsNoStart plan.now part) }
 {
     if plan.parts() <= part {
-        return Err(JobInputError::Part);
+        return Err(ServeNodeError::Part);
     }
     let part = part_of(alloc, graph, plan, part)?;
     Ok(Session::start(alloc, part)?)
@@ -473,12 +472,11 @@ impl<'a, V: Watch> Server<'a, V> {
             IsJobRead s counted left (R.remaining reader.old) self.now.graph.now plan.now →
             result ≡ Err (ServeNodeError.Serve ServeError.Memory) →
             WantsNode s counted part left (R.remaining reader.new) }
-        ensures jobless { (e : NoJob) → result ≡ Err (ServeNodeError.Job e) →
-            Keeps (W.contents writer.old) (W.contents writer.new) }
-        ensures same { (e : NoJob) → result ≡ Err (ServeNodeError.Job e) →
-            R.remaining reader.new ≡ R.remaining reader.old }
-        ensures refused { (e : NoJob) → result ≡ Err (ServeNodeError.Job e) →
-            IsNoStart plan.now part e }
+        ensures jobless { IfErr result (λ e. IsNoNode e →
+            Keeps (W.contents writer.old) (W.contents writer.new)) }
+        ensures same { IfErr result (λ e. IsNoNode e →
+            R.remaining reader.new ≡ R.remaining reader.old) }
+        ensures refused { IfErr result (λ e. IsNoNode e → IsNoStart plan.now part e) }
         ensures read { FailsAs R.failed_calls reader.old reader.new result
             (Err (ServeNodeError.Serve ServeError.Read)) }
         ensures write { FailsAs W.failed_calls writer.old writer.new result
@@ -516,17 +514,17 @@ pub fn serve_node<R: CountedRead, W: CountedWrite, V: Watch>(
     ensures wanting { result ≡ Err (ServeNodeError.Serve ServeError.Memory) →
         WantsNode (settings_of job.now.options) job.now.counted part
         (R.remaining reader.old) (R.remaining reader.new) }
-    ensures jobless { (e : NoJob) → result ≡ Err (ServeNodeError.Job e) →
-        Keeps (W.contents writer.old) (W.contents writer.new) }
-    ensures refused { (e : NoJob) → result ≡ Err (ServeNodeError.Job e) →
+    ensures jobless { IfErr result (λ e. IsNoNode e →
+        Keeps (W.contents writer.old) (W.contents writer.new)) }
+    ensures refused { IfErr result (λ e. IsNoNode e →
         HasNoNode (settings_of job.now.options) job.now.counted part
-        (R.remaining reader.old) (R.remaining reader.new) e }
+        (R.remaining reader.old) (R.remaining reader.new) e) }
     ensures read { result ≡ Err (ServeNodeError.Serve ServeError.Read) →
         RisesByOne (R.failed_calls reader.old) (R.failed_calls reader.new) }
-    ensures unread { result ≡ Err (ServeNodeError.Job JobInputError.Read) →
+    ensures unread { result ≡ Err (ServeNodeError.Job InputError.Read) →
         RisesByOne (R.failed_calls reader.old) (R.failed_calls reader.new) }
     ensures counted { result ≢ Err (ServeNodeError.Serve ServeError.Read) →
-        result ≢ Err (ServeNodeError.Job JobInputError.Read) →
+        result ≢ Err (ServeNodeError.Job InputError.Read) →
         R.failed_calls reader.new ≡ R.failed_calls reader.old }
     ensures write { result ≡ Err (ServeNodeError.Serve ServeError.Write) →
         RisesByOne (W.failed_calls writer.old) (W.failed_calls writer.new) }

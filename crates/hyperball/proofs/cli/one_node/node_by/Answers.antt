@@ -11,7 +11,7 @@ pub returns-in_err-serve_node-clause-fault : goal.returns-in_err-serve_node-clau
 returns-in_err-serve_node-clause-fault g c =
     let p = err_from_is_err_and c.from_residual.result c.from_residual.ensures.1 in
     rw (p.1, p.2) (record {
-      jobless = λ e is. (c.in_err-serve_node.ensures.refused e (ap Err is), c.in_err-serve_node.ensures.jobless e (ap Err is));
+      jobless = λ none. (c.in_err-serve_node.ensures.refused none, c.in_err-serve_node.ensures.jobless none);
       stopped = λ e is other. c.in_err-serve_node.ensures.stopped e (ap Err is) other;
       wanting = λ is. c.in_err-serve_node.ensures.wanting (ap Err is);
       read = λ is. c.in_err-serve_node.ensures.read (ap Err is);

@@ -1,5 +1,3 @@
-use Rattle.node.specs.NoJob.{IsNoStart}
-use Rattle.node.proofs.JobLemmas.{told_job}
 use Rattle.node.proofs.ServeLemmas.{node_stops, node_wants, serves_node}
 use Rattle.node.proofs.serve.Server.serve_part.Goals as goal
 
@@ -18,10 +16,6 @@ returns-in-Err-clause-stopped g c = λ s counted left read.
     (g.W.Write.contents c.args.writer.now) (g.W.Write.contents c.serve_commands-served.new.writer)
     c.in_ok-session.session c.serve_commands-served.new.session _
     read c.in_ok-session.ensures.part c.in_ok-session.ensures.start c.in-Err.ensures.stopped
-
-pub returns-in_err-session-clause-refused : goal.returns-in_err-session-clause-refused
-returns-in_err-session-clause-refused g c =
-    told_job c.from_residual.result _ (IsNoStart c.args.plan.now c.args.part) c.from_residual.ensures.1 c.in_err-session.ensures.refused
 
 pub returns-in-Err-clause-wanting : goal.returns-in-Err-clause-wanting
 returns-in-Err-clause-wanting g c = λ s counted left read is.
