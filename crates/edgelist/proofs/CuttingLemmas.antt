@@ -7,12 +7,12 @@ use Rattle.std.proofs.lemmas.List.Elements.{All-from_get_or, All-head, All-push,
 use Rattle.std.proofs.Math.Seq.{drop-append_seam, take-append_seam}
 use Rattle.ball_model.proofs.BoolLemmas.{by_cases}
 use Rattle.edgelist.specs.Cutting.{Extends, IsCut, cut_fields, field_or_none, second_of}
-use Rattle.edgelist.specs.Guessing.{HasWord, IsWord}
+use Rattle.edgelist.specs.Guessing.{HasKey, IsKey}
 use Rattle.edgelist.specs.Reading.{fields_with}
 use Rattle.edgelist.specs.Records.{HasForm}
 use Rattle.edgelist.specs.declared.cut.CutRecord.{CutRecord}
-use Rattle.edgelist.specs.declared.word.LabelWord.{LabelWord}
-use Rattle.edgelist.proofs.GuessLemmas.{has-no-target, has-source, has-target, source-word, target-word}
+use Rattle.edgelist.specs.declared.key.LabelKey.{LabelKey}
+use Rattle.edgelist.proofs.GuessLemmas.{has-no-target, has-source, has-target, source-key, target-key}
 
 -- ---- where a field stands
 
@@ -48,8 +48,8 @@ cut-kept b more r h =
       first = h.first;
       second = h.second;
       within = omega (arith, most, length-append b more);
-      source = subst (λ (l : List ℕ). IsWord l r.source) (sym (range-kept b more r.start r.middle (omega (arith, lt)) (omega (arith, le, most)))) h.source;
-      target = λ more_is. subst (λ (l : List ℕ). IsWord l r.target) (sym (range-kept b more r.middle r.end h.second h.within)) (h.target more_is);
+      source = subst (λ (l : List ℕ). IsKey l r.source) (sym (range-kept b more r.start r.middle (omega (arith, lt)) (omega (arith, le, most)))) h.source;
+      target = λ more_is. subst (λ (l : List ℕ). IsKey l r.target) (sym (range-kept b more r.middle r.end h.second h.within)) (h.target more_is);
     }
 
 pub all-kept : (b c : List ℕ) (rs : List CutRecord) → Extends b c → All (IsCut b) rs → All (IsCut c) rs
@@ -72,14 +72,14 @@ fields-pushed b c rs r row e all is =
 
 -- ---- a record that is put behind the bytes
 
-abbrev made : ℕ → ℕ → ℕ → LabelWord → LabelWord → CutRecord
+abbrev made : ℕ → ℕ → ℕ → LabelKey → LabelKey → CutRecord
 made i j k v w = record { start = i; middle = j; end = k; source = v; target = w }
 
 empty-second : (s : List ℕ) → HasForm (fields_with s (Some [])) → ⊥
 empty-second [] bad = let wrong : false ≡ true = bad in cc
 empty-second (x ∷ s) bad = let wrong : false ≡ true = bad in cc
 
-pub cut-fields-made : (b s : List ℕ) (o : Option (List ℕ)) (i j k : ℕ) (v w : LabelWord) → HasForm (fields_with s o) → i ≡ length b → j ≡ length (b ++ s) → k ≡ length ((b ++ s) ++ field_or_none o) →
+pub cut-fields-made : (b s : List ℕ) (o : Option (List ℕ)) (i j k : ℕ) (v w : LabelKey) → HasForm (fields_with s o) → i ≡ length b → j ≡ length (b ++ s) → k ≡ length ((b ++ s) ++ field_or_none o) →
     cut_fields ((b ++ s) ++ field_or_none o) (made i j k v w) ≡ fields_with s o
 cut-fields-made b s None i j k v w form at middle end =
     let none : nat_lt j k ≡ false = search (tests, arith, middle, end, length-append (b ++ s) []) in
@@ -94,21 +94,21 @@ filled [] None bad = absurd (let wrong : false ≡ true = bad in cc)
 filled [] (Some t) bad = absurd (let wrong : false ≡ true = bad in cc)
 filled (x ∷ s) o form = omega arith
 
-word-of-second : (b s : List ℕ) (o : Option (List ℕ)) (j k : ℕ) (row : List (List ℕ)) (w : LabelWord) → j ≡ length (b ++ s) → k ≡ length ((b ++ s) ++ field_or_none o) → row ≡ fields_with s o → HasWord row 1 w → j < k →
-    IsWord (slice_range ((b ++ s) ++ field_or_none o) j k) w
-word-of-second b s None j k row w middle end is has lt = absurd (omega (arith, middle, end, length-append (b ++ s) []))
-word-of-second b s (Some t) j k row w middle end is has lt = rw (range-second (b ++ s) t j k middle end) (target-word row s t w is has)
+key-of-second : (b s : List ℕ) (o : Option (List ℕ)) (j k : ℕ) (row : List (List ℕ)) (w : LabelKey) → j ≡ length (b ++ s) → k ≡ length ((b ++ s) ++ field_or_none o) → row ≡ fields_with s o → HasKey row 1 w → j < k →
+    IsKey (slice_range ((b ++ s) ++ field_or_none o) j k) w
+key-of-second b s None j k row w middle end is has lt = absurd (omega (arith, middle, end, length-append (b ++ s) []))
+key-of-second b s (Some t) j k row w middle end is has lt = rw (range-second (b ++ s) t j k middle end) (target-key row s t w is has)
 
-pub cut-made : (b s : List ℕ) (o : Option (List ℕ)) (i j k : ℕ) (row : List (List ℕ)) (v w : LabelWord) → HasForm (fields_with s o) → i ≡ length b → j ≡ length (b ++ s) → k ≡ length ((b ++ s) ++ field_or_none o) →
-    row ≡ fields_with s o → HasWord row 0 v → HasWord row 1 w → IsCut ((b ++ s) ++ field_or_none o) (made i j k v w)
+pub cut-made : (b s : List ℕ) (o : Option (List ℕ)) (i j k : ℕ) (row : List (List ℕ)) (v w : LabelKey) → HasForm (fields_with s o) → i ≡ length b → j ≡ length (b ++ s) → k ≡ length ((b ++ s) ++ field_or_none o) →
+    row ≡ fields_with s o → HasKey row 0 v → HasKey row 1 w → IsCut ((b ++ s) ++ field_or_none o) (made i j k v w)
 cut-made b s o i j k row v w form at middle end is first second =
     let some = filled s o form in
     record {
       first = omega (arith, at, middle, some, length-append b s);
       second = omega (arith, middle, end, length-append (b ++ s) (field_or_none o));
       within = omega (arith, end);
-      source = rw (range-first b s (field_or_none o) i j at middle) (source-word row s o v is first);
-      target = λ lt. word-of-second b s o j k row w middle end is second lt;
+      source = rw (range-first b s (field_or_none o) i j at middle) (source-key row s o v is first);
+      target = λ lt. key-of-second b s o j k row w middle end is second lt;
     }
 
 -- ---- what is told of a record
@@ -133,7 +133,7 @@ form-two [] t lt some = absurd (omega arith)
 form-two (x ∷ s) [] lt some = absurd (omega arith)
 form-two (x ∷ s) (y ∷ t) lt some = refl
 
--- its form, and the words of its fields
+-- its form, and the keys of its fields
 pub form-cut : (b : List ℕ) (r : CutRecord) → IsCut b r → HasForm (cut_fields b r)
 form-cut b r h =
     let lt = h.first in
@@ -152,11 +152,11 @@ form-all b (r ∷ rs) all =
     let within : i < length (r ∷ rs) = omega (arith, lt, long) in
     subst HasForm (sym (get_or-map (cut_fields b) (r ∷ rs) i r [] within)) (form-cut b (get_or (r ∷ rs) i r) (all i r within)))
 
-pub first-word : (b : List ℕ) (r : CutRecord) (fs : List (List ℕ)) → fs ≡ cut_fields b r → IsCut b r → HasWord fs 0 r.source
-first-word b r fs is h = has-source fs (slice_range b r.start r.middle) (second_of b r) r.source is h.source
+pub first-key : (b : List ℕ) (r : CutRecord) (fs : List (List ℕ)) → fs ≡ cut_fields b r → IsCut b r → HasKey fs 0 r.source
+first-key b r fs is h = has-source fs (slice_range b r.start r.middle) (second_of b r) r.source is h.source
 
-pub second-word : (b : List ℕ) (r : CutRecord) (fs : List (List ℕ)) → fs ≡ cut_fields b r → IsCut b r → HasWord fs 1 r.target
-second-word b r fs is h =
+pub second-key : (b : List ℕ) (r : CutRecord) (fs : List (List ℕ)) → fs ≡ cut_fields b r → IsCut b r → HasKey fs 1 r.target
+second-key b r fs is h =
     by_cases (nat_lt r.middle r.end) _
     (λ t.
     let more : r.middle < r.end = search (tests, arith, t) in

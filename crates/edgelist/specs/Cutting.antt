@@ -1,6 +1,6 @@
 -- Records that were cut into their fields.
 use Rattle.std.specs.Prelude.{◌≡◌, ℕ, ◌<◌, ◌≤◌, List, [], ◌++◌, Option, Some, None, length, nat_lt, slice_range, if◌then◌else◌}
-use Rattle.edgelist.specs.Guessing.{IsWord}
+use Rattle.edgelist.specs.Guessing.{IsKey}
 use Rattle.edgelist.specs.Reading.{fields_with}
 use Rattle.edgelist.specs.declared.cut.CutRecord.{CutRecord}
 
@@ -12,13 +12,13 @@ second_of bytes r = if nat_lt r.middle r.end then Some (slice_range bytes r.midd
 abbrev pub cut_fields : List ℕ → CutRecord → List (List ℕ)
 cut_fields bytes r = fields_with (slice_range bytes r.start r.middle) (second_of bytes r)
 
--- a record is among the bytes: its first field is not empty, and its words are those of its fields
+-- a record is among the bytes: its first field is not empty, and its keys are those of its fields
 pub record IsCut (bytes : List ℕ) (r : CutRecord) : Type 0 where
   pub first : r.start < r.middle
   pub second : r.middle ≤ r.end
   pub within : r.end ≤ length bytes
-  pub source : IsWord (slice_range bytes r.start r.middle) r.source
-  pub target : r.middle < r.end → IsWord (slice_range bytes r.middle r.end) r.target
+  pub source : IsKey (slice_range bytes r.start r.middle) r.source
+  pub target : r.middle < r.end → IsKey (slice_range bytes r.middle r.end) r.target
 
 -- bytes were put after others, or none were
 pub record Extends (old new : List ℕ) : Type 0 where

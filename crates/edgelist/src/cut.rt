@@ -5,38 +5,38 @@ ghost use Rattle.std.specs.Prelude.{slice_index_or, IfSome, OnSome, option_copie
 ghost use Rattle.std.specs.List.{All};
 ghost use Rattle.ball_model.specs.Input.{records};
 ghost use Rattle.edgelist.specs.Cutting.{Extends, IsCut, cut_fields, field_or_none};
-ghost use Rattle.edgelist.specs.Guessing.{HasWord};
+ghost use Rattle.edgelist.specs.Guessing.{HasKey};
 ghost use Rattle.edgelist.specs.Reading.{fields_with};
 ghost use Rattle.graph.specs.Records.{IsLeft};
 ghost use Rattle.edgelist.specs.Records.{HasForm};
 
+use crate::key::LabelKey;
 use crate::limits::MOST_RECORDS;
 use crate::row::Row;
-use crate::word::LabelWord;
 use csv::Reader;
 use std::alloc::Global;
 use std::io::Read;
 use std::marker::Model;
 
-/// Where the fields of a record are among the bytes of all, and the words of the fields. The first ends where the
+/// Where the fields of a record are among the bytes of all, and the keys of the fields. The first ends where the
 /// second begins; if there is no second, that is where the record ends.
 #[derive(Clone, Copy)]
 pub(crate) struct CutRecord {
     start: u32,
     middle: u32,
     end: u32,
-    source: LabelWord,
-    target: LabelWord,
+    source: LabelKey,
+    target: LabelKey,
 }
 
 impl CutRecord {
-    /// The word of the first field.
-    pub(crate) fn source_word(&self) -> LabelWord {
+    /// The key of the first field.
+    pub(crate) fn source_key(&self) -> LabelKey {
         self.source
     }
 
-    /// The word of the second field, or any if there is none.
-    pub(crate) fn target_word(&self) -> LabelWord {
+    /// The key of the second field, or any if there is none.
+    pub(crate) fn target_key(&self) -> LabelKey {
         self.target
     }
 }
@@ -114,8 +114,8 @@ fn put_fields(bytes: &mut Vec<u8>, row: &Row) -> Option<CutRecord>
         start,
         middle,
         end,
-        source: row.source_word(),
-        target: row.target_word(),
+        source: row.source_key(),
+        target: row.target_key(),
     })
 }
 
@@ -190,11 +190,11 @@ impl Cut {
         }
     }
 
-    /// The words of the fields of record i.
-    pub(crate) fn words(&self, i: usize) -> (LabelWord, LabelWord)
+    /// The keys of the fields of record i.
+    pub(crate) fn keys(&self, i: usize) -> (LabelKey, LabelKey)
         requires { i < length self.now }
-        ensures source { HasWord (slice_index_or self.now i []) 0 result.0 }
-        ensures target { HasWord (slice_index_or self.now i []) 1 result.1 }
+        ensures source { HasKey (slice_index_or self.now i []) 0 result.0 }
+        ensures target { HasKey (slice_index_or self.now i []) 1 result.1 }
     {
         let record = self.records[i];
         (record.source, record.target)

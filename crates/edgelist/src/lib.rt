@@ -16,6 +16,7 @@
 #![tactic(auto)]
 
 mod cut;
+mod key;
 mod limits;
 mod numbering;
 mod piece;
@@ -26,7 +27,6 @@ mod rounds;
 mod row;
 mod sequential;
 mod watch;
-mod word;
 
 pub use graph::{CountedError, Delimiter, Feeds, Graph, Part, Preds, laws};
 pub use limits::{

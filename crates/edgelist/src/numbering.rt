@@ -6,14 +6,14 @@ ghost use Rattle.std.specs.Prelude.{OnOk, OnErr};
 ghost use Rattle.std.specs.List.{IsDistinct};
 ghost use Rattle.std.specs.Str.{bytes_eq};
 ghost use Rattle.graph.specs.Finding.{StandsAt};
-ghost use Rattle.edgelist.specs.Guessing.{AreGuesses, IsShort, IsWord, IsGuess, blank_entry};
-ghost use Rattle.edgelist.specs.Guessing.{entry_word, word_of};
+ghost use Rattle.edgelist.specs.Guessing.{AreGuesses, IsShort, IsKey, IsGuess, blank_entry};
+ghost use Rattle.edgelist.specs.Guessing.{entry_key, key_of};
 ghost use Rattle.graph.specs.Labels.{texts, has_label, with_label};
-ghost use Rattle.edgelist.specs.declared.word.TheConstants.{SHORT};
+ghost use Rattle.edgelist.specs.declared.key.TheConstants.{SHORT};
 
 use crate::cut::CutRecord;
+use crate::key::{LONG, LabelKey, SHORT};
 use crate::row::Row;
-use crate::word::{LONG, LabelWord, SHORT};
 use graph::{Labels, find_label, insert_label};
 use indexmap::IndexSet;
 use std::alloc::{AllocError, Global};
@@ -32,7 +32,7 @@ const MANY_ENTRIES: usize = 33_554_432;
 // The number of entries of a group: they lie side by side, most often in one line of the cache.
 const GROUP: usize = 4;
 
-// A label's word, and the label's number.
+// A label's key, and the label's number.
 #[derive(Clone, Copy)]
 struct LabelGuess {
     low: u64,
@@ -40,7 +40,7 @@ struct LabelGuess {
     number: u32,
 }
 
-// An entry of no label: the second number of a word is never 0.
+// An entry of no label: the second number of a key is never 0.
 const BLANK: LabelGuess = LabelGuess {
     low: 0,
     high: 0,
@@ -50,7 +50,7 @@ const BLANK: LabelGuess = LabelGuess {
 /// Labels, numbered from 0 by first appearance.
 ///
 /// Beside the set of labels is a table of guesses: a label has one group of entries there, each of which holds a label's
-/// word and number. A short label that has the word of an entry is found by one access to memory in place of the set's
+/// key and number. A short label that has the key of an entry is found by one access to memory in place of the set's
 /// three. A long one is held against the label with that number, and the set's way of mixing its bytes is saved.
 #[derive(Drop)]
 pub(crate) struct Numbering {
@@ -71,10 +71,10 @@ impl Model for Numbering {
 }
 
 impl LabelGuess {
-    fn word(self) -> LabelWord
-        ensures { result ≡ entry_word self }
+    fn key(self) -> LabelKey
+        ensures { result ≡ entry_key self }
     {
-        LabelWord {
+        LabelKey {
             low: self.low,
             high: self.high,
         }
@@ -91,33 +91,33 @@ fn decimal(text: u64) -> u64 {
     (fours >> 32) * 10_000 + (fours & 0xffff_ffff)
 }
 
-// A number by which a word's group is chosen: any will do. Groups of labels that are numbers of at most 8 digits lie
+// A number by which a key's group is chosen: any will do. Groups of labels that are numbers of at most 8 digits lie
 // near one another if the numbers do: edges often lead to labels near by. Multiples of a power of 2 are not all in one
 // group. The others are spread.
-fn spot(word: LabelWord) -> u64 {
-    if word.high < 0x100 && word.low & 0x4040_4040_4040_4040 == 0 {
-        let number = decimal(word.low);
+fn spot(key: LabelKey) -> u64 {
+    if key.high < 0x100 && key.low & 0x4040_4040_4040_4040 == 0 {
+        let number = decimal(key.low);
         return number.wrapping_add(number >> 12);
     }
-    let mixed = (word.low ^ u64::from(word.high).wrapping_mul(0xd6e8_feb8_6659_fd93)).wrapping_mul(
+    let mixed = (key.low ^ u64::from(key.high).wrapping_mul(0xd6e8_feb8_6659_fd93)).wrapping_mul(
         0x9e37_79b9_7f4a_7c15,
     );
     mixed >> 32
 }
 
-// Where the group of a word begins among 2^k entries.
-fn group(word: LabelWord, count: usize) -> usize {
-    (spot(word) as usize & count.wrapping_sub(1)) / GROUP * GROUP
+// Where the group of a key begins among 2^k entries.
+fn group(key: LabelKey, count: usize) -> usize {
+    (spot(key) as usize & count.wrapping_sub(1)) / GROUP * GROUP
 }
 
-// The number of the short label with this word, if an entry of its group is that label's.
-fn guess(entries: &[LabelGuess], word: LabelWord) -> Option<usize>
+// The number of the short label with this key, if an entry of its group is that label's.
+fn guess(entries: &[LabelGuess], key: LabelKey) -> Option<usize>
     ensures { (labels : List (List ℕ)) (label : List ℕ) → AreGuesses labels entries.now
-        → IsShort label → word ≡ word_of label → IfSome result (StandsAt labels label) }
+        → IsShort label → key ≡ key_of label → IfSome result (StandsAt labels label) }
 {
-    let start = group(word, entries.len());
+    let start = group(key, entries.len());
     for i in start..entries.len().min(start.saturating_add(GROUP)) {
-        if entries[i].word() == word {
+        if entries[i].key() == key {
             return Some(entries[i].number as usize);
         }
     }
@@ -139,33 +139,33 @@ fn guess_long(
     labels: &IndexSet<Vec<u8>, RandomState>,
     entries: &[LabelGuess],
     label: &[u8],
-    word: LabelWord,
+    key: LabelKey,
 ) -> Option<usize>
     ensures { IfSome result (StandsAt (texts labels.now) label.now) }
 {
-    let start = group(word, entries.len());
+    let start = group(key, entries.len());
     for i in start..entries.len().min(start.saturating_add(GROUP)) {
-        if entries[i].word() == word && is_numbered(labels, label, entries[i].number as usize) {
+        if entries[i].key() == key && is_numbered(labels, label, entries[i].number as usize) {
             return Some(entries[i].number as usize);
         }
     }
     None
 }
 
-// Whether the label of a word may be new: the first entry of its group is blank. This is a guess. A label that is known
+// Whether the label of a key may be new: the first entry of its group is blank. This is a guess. A label that is known
 // may be taken for new, if its entry was lost; a new one is not taken for new if another label's entry is the first of
 // its group.
-fn may_be_new(entries: &[LabelGuess], word: LabelWord) -> bool {
-    let place = group(word, entries.len());
-    word.high > 0 && place < entries.len() && entries[place].high == 0
+fn may_be_new(entries: &[LabelGuess], key: LabelKey) -> bool {
+    let place = group(key, entries.len());
+    key.high > 0 && place < entries.len() && entries[place].high == 0
 }
 
 // How many of a row's first two fields may be new labels: a guess, as each of them is.
 fn count_new_in(entries: &[LabelGuess], row: &Row) -> usize
     ensures { result ≤ 2 }
 {
-    let source = may_be_new(entries, row.source_word());
-    let target = may_be_new(entries, row.target_word());
+    let source = may_be_new(entries, row.source_key());
+    let target = may_be_new(entries, row.target_key());
     usize::from(source) + usize::from(target)
 }
 
@@ -182,8 +182,8 @@ fn count_new(entries: &[LabelGuess], rows: &[Row]) -> usize {
 fn count_new_cut(entries: &[LabelGuess], records: &[CutRecord]) -> usize {
     let mut new = 0usize;
     for record in records {
-        let source = may_be_new(entries, record.source_word());
-        let target = may_be_new(entries, record.target_word());
+        let source = may_be_new(entries, record.source_key());
+        let target = may_be_new(entries, record.target_key());
         new = new.saturating_add(usize::from(source) + usize::from(target));
     }
     new
@@ -205,7 +205,7 @@ fn put(entries: &mut [LabelGuess], entry: LabelGuess)
     ensures { (labels : List (List ℕ)) → AreGuesses labels entries.old → IsGuess labels entry
         → AreGuesses labels entries.new }
 {
-    let place = entry_place(entries, group(entry.word(), entries.len()));
+    let place = entry_place(entries, group(entry.key(), entries.len()));
     if place < entries.len() {
         entries[place] = entry;
     }
@@ -223,26 +223,26 @@ fn put_entries(entries: &mut [LabelGuess], smaller: &[LabelGuess])
     }
 }
 
-// Puts a label's word and number into an entry of its group.
-fn remember(entries: &mut [LabelGuess], word: LabelWord, number: usize)
+// Puts a label's key and number into an entry of its group.
+fn remember(entries: &mut [LabelGuess], key: LabelKey, number: usize)
     ensures { (labels : List (List ℕ)) (label : List ℕ) → AreGuesses labels entries.old
-        → IsShort label → word ≡ word_of label → StandsAt labels label number
+        → IsShort label → key ≡ key_of label → StandsAt labels label number
         → AreGuesses labels entries.new }
 {
     let Ok(number) = u32::try_from(number) else {
         return;
     };
     let entry = LabelGuess {
-        low: word.low,
-        high: word.high,
+        low: key.low,
+        high: key.high,
         number,
     };
     put(entries, entry);
 }
 
-// Puts the word of a long label and a number into an entry of its group, whatever label that is: it leads to no short
+// Puts the key of a long label and a number into an entry of its group, whatever label that is: it leads to no short
 // one.
-fn remember_long(entries: &mut [LabelGuess], word: LabelWord, number: usize)
+fn remember_long(entries: &mut [LabelGuess], key: LabelKey, number: usize)
     ensures { (labels : List (List ℕ)) → AreGuesses labels entries.old →
         AreGuesses labels entries.new }
 {
@@ -250,8 +250,8 @@ fn remember_long(entries: &mut [LabelGuess], word: LabelWord, number: usize)
         return;
     };
     let entry = LabelGuess {
-        low: word.low,
-        high: word.high,
+        low: key.low,
+        high: key.high,
         number,
     };
     if entry.high % 256 == LONG {
@@ -297,9 +297,9 @@ impl Numbering {
         &mut self,
         alloc: Global,
         label: &[u8],
-        word: LabelWord,
+        key: LabelKey,
     ) -> Result<usize, AllocError>
-        requires { IsWord label.now word }
+        requires { IsKey label.now key }
         ensures within { IfOk result (λ i. i < length self.new) }
         ensures stands { IfOk result (λ i. slice_index_or self.new i [] ≡ label.now) }
         ensures labels { OnOk result (self.new ≡ with_label self.old label.now) }
@@ -307,57 +307,57 @@ impl Numbering {
         ensures kept { OnErr result (self.new ≡ self.old) }
     {
         if label.len() > SHORT {
-            return self.number_long(alloc, label, word);
+            return self.number_long(alloc, label, key);
         }
-        match guess(&self.entries, word) {
+        match guess(&self.entries, key) {
             Some(number) => Ok(number),
-            None => self.look_up_short(alloc, label, word),
+            None => self.look_up_short(alloc, label, key),
         }
     }
 
-    // The number of a short label by the set, which its word then leads to.
+    // The number of a short label by the set, which its key then leads to.
     fn look_up_short(
         &mut self,
         alloc: Global,
         label: &[u8],
-        word: LabelWord,
+        key: LabelKey,
     ) -> Result<usize, AllocError>
         requires short { IsShort label.now }
-        requires word { word ≡ word_of label.now }
+        requires key { key ≡ key_of label.now }
         ensures found { IfOk result (StandsAt self.new label.now) }
         ensures labels { OnOk result (self.new ≡ with_label self.old label.now) }
         ensures known { has_label self.old label.now ≡ true → IsOk result }
         ensures kept { OnErr result (self.new ≡ self.old) }
     {
         let number = self.look_up(alloc, label)?;
-        remember(&mut self.entries, word, number);
+        remember(&mut self.entries, key, number);
         Ok(number)
     }
 
-    // The number of a long label, by the entry that its word leads to or else by the set.
+    // The number of a long label, by the entry that its key leads to or else by the set.
     fn number_long(
         &mut self,
         alloc: Global,
         label: &[u8],
-        word: LabelWord,
+        key: LabelKey,
     ) -> Result<usize, AllocError>
         ensures found { IfOk result (StandsAt self.new label.now) }
         ensures labels { OnOk result (self.new ≡ with_label self.old label.now) }
         ensures known { has_label self.old label.now ≡ true → IsOk result }
         ensures kept { OnErr result (self.new ≡ self.old) }
     {
-        match guess_long(&self.labels, &self.entries, label, word) {
+        match guess_long(&self.labels, &self.entries, label, key) {
             Some(number) => Ok(number),
-            None => self.look_up_long(alloc, label, word),
+            None => self.look_up_long(alloc, label, key),
         }
     }
 
-    // The number of a long label by the set, which its word then leads to.
+    // The number of a long label by the set, which its key then leads to.
     fn look_up_long(
         &mut self,
         alloc: Global,
         label: &[u8],
-        word: LabelWord,
+        key: LabelKey,
     ) -> Result<usize, AllocError>
         ensures found { IfOk result (StandsAt self.new label.now) }
         ensures labels { OnOk result (self.new ≡ with_label self.old label.now) }
@@ -365,7 +365,7 @@ impl Numbering {
         ensures kept { OnErr result (self.new ≡ self.old) }
     {
         let number = self.look_up(alloc, label)?;
-        remember_long(&mut self.entries, word, number);
+        remember_long(&mut self.entries, key, number);
         Ok(number)
     }
 

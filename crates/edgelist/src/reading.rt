@@ -10,7 +10,7 @@ ghost use Rattle.ball_model.specs.Input.{IsPlain, Network, Refusal, has_form, mo
 ghost use Rattle.ball_model.specs.Input.{network_from, records};
 ghost use Rattle.graph.specs.Edges.{edge_of, graph_of_edges};
 ghost use Rattle.edgelist.specs.declared.limits.EdgeError.TheVariants.{Memory};
-ghost use Rattle.edgelist.specs.Guessing.{IsWord};
+ghost use Rattle.edgelist.specs.Guessing.{IsKey};
 ghost use Rattle.edgelist.specs.Pieces.{AddsRecords, IsPartRead, IsThrough, ReadsOn};
 ghost use Rattle.graph.specs.Records.{FromStart, byte_of};
 ghost use Rattle.edgelist.specs.Records.{HasForm, ReadsNoneAfter, ReadsOneAfter};
@@ -20,11 +20,11 @@ ghost use Rattle.graph.specs.Labels.{has_label, with_label};
 ghost use Rattle.edgelist.specs.Reading.{Exceeds, Refuses, Stops, limits_of, network_by};
 
 use crate::cut::Cut;
+use crate::key::LabelKey;
 use crate::limits::{EdgeError, EdgeLimits, EdgeList, read_answer};
 use crate::numbering::Numbering;
 use crate::row::Row;
 use crate::watch::{ReadWatch, Unwatched};
-use crate::word::LabelWord;
 use csv::Reader;
 use graph::{Delimiter, Edge, Graph, reader_of, sort_parts};
 use std::alloc::{AllocError, AllocGlobal, Global};
@@ -60,11 +60,11 @@ pub(crate) struct Lines<'a> {
     pub(crate) delimiter: Delimiter,
 }
 
-// A label and its word.
+// A label and its key.
 #[derive(Clone, Copy)]
 struct Field<'a> {
     label: &'a [u8],
-    word: LabelWord,
+    key: LabelKey,
 }
 
 // The labels so far, numbered by first appearance, and the edges.
@@ -144,7 +144,7 @@ impl Reading {
 
     // The number of a label, with which there are not more vertices than the limit.
     fn add_label(&mut self, field: Field<'_>, vertices: u32) -> Result<usize, EdgeError>
-        requires { IsWord field.label.now field.word }
+        requires { IsKey field.label.now field.key }
         ensures labels { OnOk result (
             self.new.labels ≡ with_label self.old.labels field.entry.label.now) }
         ensures edges { self.new.edges.items ≡ self.old.edges.items }
@@ -159,7 +159,7 @@ impl Reading {
         ensures kept { result ≡ Err EdgeError.Memory → self.new.labels ≡ self.old.labels }
     {
         let alloc = self.alloc();
-        let number = self.labels.number(alloc, field.label, field.word)?;
+        let number = self.labels.number(alloc, field.label, field.key)?;
         if self.labels.len() > vertices as usize {
             return Err(EdgeError::TooManyVertices);
         }
@@ -168,7 +168,7 @@ impl Reading {
 
     // Adds the label of a record of one field.
     fn add_vertex(&mut self, field: Field<'_>, vertices: u32) -> Result<(), EdgeError>
-        requires { IsWord field.label.now field.word }
+        requires { IsKey field.label.now field.key }
         ensures labels { OnOk result (
             self.new.labels ≡ with_label self.old.labels field.entry.label.now) }
         ensures edges { OnOk result (self.new.edges.items ≡ self.old.edges.items) }
@@ -190,8 +190,8 @@ impl Reading {
         target: Field<'_>,
         vertices: u32,
     ) -> Result<(), EdgeError>
-        requires source { IsWord source.label.now source.word }
-        requires target { IsWord target.label.now target.word }
+        requires source { IsKey source.label.now source.key }
+        requires target { IsKey target.label.now target.key }
         ensures adds { OnOk result (AddsEdge source.entry.label.now target.entry.label.now
             self.old.labels self.old.edges.items self.new.labels self.new.edges.items) }
         ensures few { OnOk result (length self.new.labels ≤ vertices) }
@@ -238,14 +238,14 @@ impl Reading {
         };
         let source = Field {
             label: source,
-            word: row.source_word(),
+            key: row.source_key(),
         };
         match target {
             None => self.add_vertex(source, limits.vertices),
             Some(target) => {
                 let target = Field {
                     label: target,
-                    word: row.target_word(),
+                    key: row.target_key(),
                 };
                 self.add_edge(source, target, limits.vertices)
             }
@@ -288,17 +288,17 @@ impl Reading {
         ensures memory { IfErr result (λ e. e ≡ Memory) }
     {
         let (source, target) = cut.labels(i);
-        let (source_word, target_word) = cut.words(i);
+        let (source_key, target_key) = cut.keys(i);
         let source = Field {
             label: source,
-            word: source_word,
+            key: source_key,
         };
         match target {
             None => self.add_vertex(source, limits.vertices),
             Some(target) => {
                 let target = Field {
                     label: target,
-                    word: target_word,
+                    key: target_key,
                 };
                 self.add_edge(source, target, limits.vertices)
             }

@@ -1,14 +1,14 @@
-//! Records that are read, each with the words of its labels.
+//! Records that are read, each with the keys of its labels.
 
 ghost use Rattle.std.specs.Prelude.{◌≡◌, [], IfOk, IfNone, IfSome, OnSome, length, option_copied};
 ghost use Rattle.std.specs.Prelude.{true, false};
 ghost use Rattle.csv.specs.Records.{fields_of};
 ghost use Rattle.ball_model.specs.Input.{has_form};
-ghost use Rattle.edgelist.specs.Guessing.{HasWord};
+ghost use Rattle.edgelist.specs.Guessing.{HasKey};
 ghost use Rattle.edgelist.specs.Reading.{fields_with};
 ghost use Rattle.graph.specs.Records.{ReadsNone, ReadsOne};
 
-use crate::word::LabelWord;
+use crate::key::LabelKey;
 use csv::{ByteRecord, Reader};
 use graph::is_blank;
 use std::alloc::{AllocError, Global};
@@ -18,13 +18,13 @@ use std::marker::Model;
 /// So many records are read before the first of them is added, at most.
 pub(crate) const AT_ONCE: usize = 16;
 
-/// A record, the words of its first two fields, and whether it has the form of one. A field that is long or not there has
-/// the word of no label.
+/// A record, the keys of its first two fields, and whether it has the form of one. A field that is long or not there has
+/// the key of no label.
 #[derive(Drop)]
 pub(crate) struct Row {
     fields: ByteRecord,
-    source: LabelWord,
-    target: LabelWord,
+    source: LabelKey,
+    target: LabelKey,
     formed: bool,
 }
 
@@ -32,14 +32,14 @@ impl Model for Row {
     ghost use Rattle.std.specs.Prelude.{◌≡◌, List, ℕ};
     ghost use Rattle.csv.specs.Records.{fields_of};
     ghost use Rattle.ball_model.specs.Input.{has_form};
-    ghost use Rattle.edgelist.specs.Guessing.{HasWord};
+    ghost use Rattle.edgelist.specs.Guessing.{HasKey};
 
     ghost Value = { List (List ℕ) };
 
     ghost view = { λ row. fields_of row.fields };
 
     ghost invariant = { λ row.
-        HasWord (fields_of row.fields) 0 row.source × HasWord (fields_of row.fields) 1 row.target
+        HasKey (fields_of row.fields) 0 row.source × HasKey (fields_of row.fields) 1 row.target
         × row.formed ≡ has_form (fields_of row.fields) };
 }
 
@@ -66,28 +66,28 @@ fn fields_in<'a>(row: &'a ByteRecord) -> Option<(&'a [u8], Option<&'a [u8]>)>
     }
 }
 
-// The word of a field.
-fn word_at(row: &ByteRecord, i: usize) -> LabelWord
-    ensures { HasWord (fields_of row.now) i result }
+// The key of a field.
+fn key_at(row: &ByteRecord, i: usize) -> LabelKey
+    ensures { HasKey (fields_of row.now) i result }
 {
     match row.get(i) {
-        Some(label) => LabelWord::of(label),
-        None => LabelWord::none(),
+        Some(label) => LabelKey::of(label),
+        None => LabelKey::none(),
     }
 }
 
-// The words of a record's first two fields, and whether it has the form of one.
-fn words_in(row: &ByteRecord) -> (LabelWord, LabelWord, bool)
-    ensures source { HasWord (fields_of row.now) 0 result.0 }
-    ensures target { HasWord (fields_of row.now) 1 result.1 }
+// The keys of a record's first two fields, and whether it has the form of one.
+fn keys_in(row: &ByteRecord) -> (LabelKey, LabelKey, bool)
+    ensures source { HasKey (fields_of row.now) 0 result.0 }
+    ensures target { HasKey (fields_of row.now) 1 result.1 }
     ensures form { result.2 ≡ has_form (fields_of row.now) }
 {
     let Some((source, target)) = fields_in(row) else {
-        return (word_at(row, 0), word_at(row, 1), false);
+        return (key_at(row, 0), key_at(row, 1), false);
     };
     match target {
-        None => (LabelWord::of(source), LabelWord::none(), true),
-        Some(target) => (LabelWord::of(source), LabelWord::of(target), true),
+        None => (LabelKey::of(source), LabelKey::none(), true),
+        Some(target) => (LabelKey::of(source), LabelKey::of(target), true),
     }
 }
 
@@ -98,8 +98,8 @@ impl Row {
     {
         Row {
             fields: ByteRecord::new(alloc),
-            source: LabelWord::none(),
-            target: LabelWord::none(),
+            source: LabelKey::none(),
+            target: LabelKey::none(),
             formed: false,
         }
     }
@@ -114,9 +114,9 @@ impl Row {
         ensures end { IfOk result (λ more. more ≡ false →
             ReadsNone R.remaining reader.old reader.new) }
     {
-        // A read that failed may have changed the fields too, so the words are set in any case.
+        // A read that failed may have changed the fields too, so the keys are set in any case.
         let read = reader.read_byte_record(&mut self.fields);
-        let (source, target, formed) = words_in(&self.fields);
+        let (source, target, formed) = keys_in(&self.fields);
         self.source = source;
         self.target = target;
         self.formed = formed;
@@ -140,16 +140,16 @@ impl Row {
         self.formed
     }
 
-    /// The word of its first field.
-    pub(crate) fn source_word(&self) -> LabelWord
-        ensures { HasWord self.now 0 result }
+    /// The key of its first field.
+    pub(crate) fn source_key(&self) -> LabelKey
+        ensures { HasKey self.now 0 result }
     {
         self.source
     }
 
-    /// The word of its second field.
-    pub(crate) fn target_word(&self) -> LabelWord
-        ensures { HasWord self.now 1 result }
+    /// The key of its second field.
+    pub(crate) fn target_key(&self) -> LabelKey
+        ensures { HasKey self.now 1 result }
     {
         self.target
     }

@@ -4,5 +4,5 @@ use Rattle.edgelist.proofs.numbering.guess.Goals as goal
 
 pub returns-then-eq : goal.returns-then-eq
 returns-then-eq c = λ labels label told short is.
-    told-at labels c.args.entries.now label c.args.word c.loop-i.i _ _ refl (omega (arith, c.loop-i-test.true, c.min-i-end.ensures)) told short is
-    (rw c.word.ensures at (sym c.eq.ensures ∙ c.if-eq.true))
+    told-at labels c.args.entries.now label c.args.key c.loop-i.i _ _ refl (omega (arith, c.loop-i-test.true, c.min-i-end.ensures)) told short is
+    (rw c.key.ensures at (sym c.eq.ensures ∙ c.if-eq.true))

@@ -1,6 +1,6 @@
 use Rattle.std.proofs.Common.{arith}
 use Rattle.edgelist.proofs.FaultLemmas.{answer-one, answer-two, stop-one, stop-two}
-use Rattle.edgelist.proofs.GuessLemmas.{source-word, target-word}
+use Rattle.edgelist.proofs.GuessLemmas.{source-key, target-key}
 use Rattle.edgelist.proofs.reading.Reading.add.Goals as goal
 
 pub returns-in-None-clause-adds : goal.returns-in-None-clause-adds
@@ -40,10 +40,10 @@ pub returns-in-Some-target-clause-memory : goal.returns-in-Some-target-clause-me
 returns-in-Some-target-clause-memory c = c.add_edge.ensures.memory
 
 pub add_vertex-requires : goal.add_vertex-requires
-add_vertex-requires c = source-word _ _ _ _ c.in-Some.ensures.fields c.source_word.ensures
+add_vertex-requires c = source-key _ _ _ _ c.in-Some.ensures.fields c.source_key.ensures
 
 pub add_edge-requires-clause-source : goal.add_edge-requires-clause-source
-add_edge-requires-clause-source c = source-word _ _ _ _ c.in-Some.ensures.fields c.source_word.ensures
+add_edge-requires-clause-source c = source-key _ _ _ _ c.in-Some.ensures.fields c.source_key.ensures
 
 pub add_edge-requires-clause-target : goal.add_edge-requires-clause-target
-add_edge-requires-clause-target c = target-word _ _ _ _ (rw c.in-Some-target.is at c.in-Some.ensures.fields) c.target_word.ensures
+add_edge-requires-clause-target c = target-key _ _ _ _ (rw c.in-Some-target.is at c.in-Some.ensures.fields) c.target_key.ensures

@@ -1,6 +1,6 @@
 use Rattle.std.proofs.Common.{arith}
 use Rattle.edgelist.proofs.FaultLemmas.{answer-one, answer-two}
-use Rattle.edgelist.proofs.GuessLemmas.{source-word, target-word}
+use Rattle.edgelist.proofs.GuessLemmas.{source-key, target-key}
 use Rattle.edgelist.proofs.reading.Reading.add_one_cut.Goals as goal
 
 pub returns-in-None-clause-adds : goal.returns-in-None-clause-adds
@@ -14,10 +14,10 @@ returns-in-Some-clause-adds c =
     c.add_edge.ensures.adds c.add_edge.ensures.few
 
 pub add_vertex-requires : goal.add_vertex-requires
-add_vertex-requires c = source-word _ _ _ _ c.labels.ensures.fields c.words.ensures.source
+add_vertex-requires c = source-key _ _ _ _ c.labels.ensures.fields c.keys.ensures.source
 
 pub add_edge-requires-clause-source : goal.add_edge-requires-clause-source
-add_edge-requires-clause-source c = source-word _ _ _ _ c.labels.ensures.fields c.words.ensures.source
+add_edge-requires-clause-source c = source-key _ _ _ _ c.labels.ensures.fields c.keys.ensures.source
 
 pub add_edge-requires-clause-target : goal.add_edge-requires-clause-target
-add_edge-requires-clause-target c = target-word _ _ _ _ (rw c.in-Some.is at c.labels.ensures.fields) c.words.ensures.target
+add_edge-requires-clause-target c = target-key _ _ _ _ (rw c.in-Some.is at c.labels.ensures.fields) c.keys.ensures.target

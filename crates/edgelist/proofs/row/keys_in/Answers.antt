@@ -1,5 +1,5 @@
 use Rattle.edgelist.proofs.GuessLemmas.{has-source, has-target, has-no-target}
-use Rattle.edgelist.proofs.row.words_in.Goals as goal
+use Rattle.edgelist.proofs.row.keys_in.Goals as goal
 
 pub returns-in-None-clause-source : goal.returns-in-None-clause-source
 returns-in-None-clause-source c = has-source _ _ _ _ c.in-Some.ensures.fields c.of.ensures

@@ -2,7 +2,7 @@ use Rattle.std.proofs.Common.{◌≡◌, ◌∙◌, ◌+◌, ◌*◌, ◌<◌, �
 use Rattle.std.proofs.lemmas.List.{drop_more, drop_all}
 use Rattle.edgelist.specs.Guessing.{bytes_after}
 use Rattle.edgelist.proofs.GuessLemmas.{digits-step, digits-fit}
-use Rattle.edgelist.proofs.word.digits.Goals as goal
+use Rattle.edgelist.proofs.key.digits.Goals as goal
 
 pub overflow_mul-digits : goal.overflow_mul-digits
 overflow_mul-digits c = let fit = digits-fit c.loop-byte.byte-index 7 (omega (arith, c.loop-byte-test.true, c.requires)) in search (arith, fit, c.loop-byte.invariant.fits)

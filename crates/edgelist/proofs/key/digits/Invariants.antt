@@ -1,6 +1,6 @@
 use Rattle.std.proofs.Common.{◌≡◌, ◌*◌, ◌^◌, ◌<◌, drop}
 use Rattle.edgelist.specs.Guessing.{bytes_after}
-use Rattle.edgelist.proofs.word.digits.Given as goal
+use Rattle.edgelist.proofs.key.digits.Given as goal
 
 abbrev pub invariant-loop-byte : goal.invariant-loop-byte
 invariant-loop-byte l = record {

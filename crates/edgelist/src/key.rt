@@ -1,22 +1,22 @@
-//! Labels as numbers: the words by which they are looked up.
+//! Labels as numbers: the keys by which they are looked up.
 
 ghost use Rattle.std.specs.Prelude.{◌≡◌, ◌^◌, ◌<◌, ◌≤◌, length};
-ghost use Rattle.edgelist.specs.Guessing.{IsWord, bytes_after, word_of};
-ghost use Rattle.edgelist.specs.declared.word.TheConstants.{FIRST, SHORT};
+ghost use Rattle.edgelist.specs.Guessing.{IsKey, bytes_after, key_of};
+ghost use Rattle.edgelist.specs.declared.key.TheConstants.{FIRST, SHORT};
 
 // The most bytes of a label that is guessed at.
 pub(crate) const SHORT: usize = 11;
 
-// How many of them the first number of its word has, at most.
+// How many of them the first number of its key has, at most.
 const FIRST: usize = 8;
 
-// The last byte of the second number of a long label's word; that of a short one is at most 12.
+// The last byte of the second number of a long label's key; that of a short one is at most 12.
 pub(crate) const LONG: u32 = 255;
 
 /// A short label as two numbers that no other short label has: its first 8 bytes, and the others with its length. Those of
 /// a long label are mixed of its bytes: no short label has them, and few others do.
 #[derive(Clone, Copy, PartialEq, Eq)]
-pub(crate) struct LabelWord {
+pub(crate) struct LabelKey {
     pub(crate) low: u64,
     pub(crate) high: u32,
 }
@@ -58,15 +58,15 @@ fn digits(part: &[u8]) -> u64
     digits
 }
 
-// The word of a short label.
-fn word(label: &[u8]) -> LabelWord
+// The key of a short label.
+fn short_key(label: &[u8]) -> LabelKey
     requires { length label.now ≤ SHORT }
-    ensures { result ≡ word_of label.now }
+    ensures { result ≡ key_of label.now }
 {
     let (first, rest) = label.split_at(label.len().min(FIRST));
     let low = digits(first);
     let high = (digits(rest) * 256 + label.len() as u64 + 1) as u32;
-    LabelWord { low, high }
+    LabelKey { low, high }
 }
 
 // A number that another is mixed into: each bit of it depends on many of the other's.
@@ -75,8 +75,8 @@ fn mix(number: u64) -> u64 {
     mixed ^ (mixed >> 32)
 }
 
-// The word of a long label.
-fn long_word(label: &[u8]) -> LabelWord {
+// The key of a long label.
+fn long_key(label: &[u8]) -> LabelKey {
     let mut low = label.len() as u64;
     let mut rest = label;
     for _i in 0..=label.len() / FIRST {
@@ -85,22 +85,22 @@ fn long_word(label: &[u8]) -> LabelWord {
         rest = more;
     }
     let high = (mix(low) >> 32) as u32 | LONG;
-    LabelWord { low, high }
+    LabelKey { low, high }
 }
 
-impl LabelWord {
-    /// The word of a label.
-    pub(crate) fn of(label: &[u8]) -> LabelWord
-        ensures { IsWord label.now result }
+impl LabelKey {
+    /// The key of a label.
+    pub(crate) fn of(label: &[u8]) -> LabelKey
+        ensures { IsKey label.now result }
     {
         if label.len() > SHORT {
-            return long_word(label);
+            return long_key(label);
         }
-        word(label)
+        short_key(label)
     }
 
-    /// The word of no label: the second number of a word is never 0.
-    pub(crate) fn none() -> LabelWord {
-        LabelWord { low: 0, high: 0 }
+    /// The key of no label: the second number of a key is never 0.
+    pub(crate) fn none() -> LabelKey {
+        LabelKey { low: 0, high: 0 }
     }
 }

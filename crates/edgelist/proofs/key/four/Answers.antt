@@ -1,7 +1,7 @@
 use Rattle.std.proofs.Common.{◌≡◌, ◌∙◌, ℕ, List, [], ◌∷◌, length, get_or, arith}
 use Rattle.std.specs.Int.{from_be_bytes, w32}
 use Rattle.edgelist.specs.Guessing.{bytes_after}
-use Rattle.edgelist.proofs.word.four.Goals as goal
+use Rattle.edgelist.proofs.key.four.Goals as goal
 
 digits-of : (a b c d : ℕ) → from_be_bytes w32 (a ∷ b ∷ c ∷ d ∷ []) ≡ bytes_after 0 (a ∷ b ∷ c ∷ d ∷ [])
 unfolding bytes_after

@@ -2,7 +2,7 @@ use Rattle.std.proofs.Common.{◌≡◌, ◌∙◌, ◌+◌, ◌-◌, ◌*◌, �
 use Rattle.std.specs.Int.Bits.{or_self, or_zero_l, or_zero_r}
 use Rattle.std.proofs.lemmas.Nat.{or_block}
 use Rattle.edgelist.specs.Guessing.{bytes_after}
-use Rattle.edgelist.proofs.word.four_and_more.Goals as goal
+use Rattle.edgelist.proofs.key.four_and_more.Goals as goal
 
 -- numbers that overlap in digits that are the same
 overlap : (k a b c : ℕ) → c < 2 ^ k → b * 2 ^ k + c < 2 ^ 32 → bit_or (a * 2 ^ 32 + b * 2 ^ k) (b * 2 ^ k + c) ≡ a * 2 ^ 32 + (b * 2 ^ k + c)
