@@ -18,7 +18,7 @@ use Rattle.workers.specs.declared.options.RunOptions.{RunOptions}
 use Rattle.hyperball.specs.Refusals.{BeginsToReport, DoesJob, FailsJob, RefusesInput, Reports}
 use Rattle.hyperball.specs.Streams.{KeptOrFailed, Reads, Writes}
 use Rattle.hyperball.specs.Whole.{Parts, ReadsWhole, at_mark, parts_in}
-use Rattle.hyperball.specs.declared.cli.run.JobFault.TheVariants as fault
+use Rattle.hyperball.specs.declared.fault.Fault.TheVariants as fault
 use Rattle.hyperball.specs.declared.whole.Lack.{Lack}
 use Rattle.hyperball.specs.declared.whole.Lack.TheVariants as lack
 use Rattle.hyperball.specs.declared.whole.WholeError.{WholeError}

@@ -11,7 +11,7 @@ use Rattle.hyperball.specs.Streams.{Reads, Writes}
 use Rattle.ball_model.specs.Sections.{sections_of}
 use Rattle.hyperball.specs.Whole.{Parts, ReadsWhole, at_mark, parts_in}
 use Rattle.hyperball.specs.declared.cli.replay.ReplayWords.{ReplayWords}
-use Rattle.hyperball.specs.declared.cli.replay.ReplayFault.TheVariants as unserved
+use Rattle.hyperball.specs.declared.fault.Fault.TheVariants as unserved
 use Rattle.hyperball.specs.declared.whole.Lack.{Lack}
 use Rattle.hyperball.specs.declared.whole.Lack.TheVariants as lack
 use Rattle.hyperball.specs.declared.whole.WholeError.{WholeError}

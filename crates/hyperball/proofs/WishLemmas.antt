@@ -1,12 +1,12 @@
 -- What the words of a command line ask for, and how that ends.
 use Rattle.std.proofs.Common.{◌≡◌, ℕ, List, [], arith, inl, inr, refl, subst, sym, true}
-use Rattle.std.specs.Prelude.{IfOk, None, Ok, Option, Result, Some}
+use Rattle.std.specs.Prelude.{Err, IfErr, IfOk, None, Ok, Option, Result, Some}
 use Rattle.std.specs.Io.KnownBytes.{Keeps}
 use Rattle.clap.specs.Words.{Row, Text, fault_of, subcommand_of}
 use Rattle.hyperball.specs.CommandLine.{Parsers, TakeNames, hyperball_app}
 use Rattle.hyperball.specs.Ends.{Does, EndsAccepted, EndsOrders, FailsAlone, FailsRun, FailsWish, LeavesFault}
 use Rattle.hyperball.specs.Nodes.{IsGatherOf, IsNodeOf}
-use Rattle.hyperball.specs.Refusals.{DoesJob}
+use Rattle.hyperball.specs.Refusals.{DoesJob, FailsJob}
 use Rattle.hyperball.specs.Replaying.{IsReplayOf}
 use Rattle.hyperball.specs.Streams.{KeptOrFailed, Reads, Untouched, Writes}
 use Rattle.hyperball.specs.Wishes.{AnswersWish, AsksWish, IsOfSubcommand, IsOfWords, IsWishOf, NamesWish, ReadsAll, Says, SaysListed, with_lists_of}
@@ -20,9 +20,9 @@ use Rattle.hyperball.specs.declared.cli.one_node.NodeWords.{NodeWords}
 use Rattle.hyperball.specs.declared.cli.replay.ReplayWords.{ReplayWords}
 use Rattle.hyperball.specs.declared.cli.orders.OrdersError.{OrdersError}
 use Rattle.hyperball.specs.declared.cli.orders.OrdersError.TheVariants as orders_error
-use Rattle.hyperball.specs.declared.cli.run.RunFault.{RunFault}
-use Rattle.hyperball.specs.declared.cli.run.RunFault.TheVariants as unrun
 use Rattle.hyperball.specs.declared.cli.run.RunWords.{RunWords}
+use Rattle.hyperball.specs.declared.fault.Fault.{Fault}
+use Rattle.hyperball.specs.declared.fault.Fault.TheVariants as fault
 
 -- nothing was written
 pub keeps_same : (old new : Option (List ℕ)) → new ≡ old → Keeps old new
@@ -32,11 +32,31 @@ keeps_same (Some x) new is = subst (Keeps (Some x)) (sym is) refl
 pub untouched_kept : (r : Reads) (w : Writes) → Untouched r w → KeptOrFailed w
 untouched_kept r w none = inl (keeps_same w.contents.old w.contents.new none.unwritten)
 
+-- a fault of a run's job is one of the run
+job_fails : (v : RunWords) (r : Reads) (w : Writes) (f : Fault) → FailsJob v.options v.counted r w f → FailsRun v r w f
+job_fails v r w fault.Gate fails = absurd fails.due
+job_fails v r w fault.Random fails = absurd fails.due
+job_fails v r w (fault.Input e) fails = fails
+job_fails v r w (fault.Lacks missing) fails = fails
+job_fails v r w (fault.Run e) fails = fails
+job_fails v r w (fault.Replay e) fails = absurd fails.due
+job_fails v r w (fault.Node e) fails = absurd fails.due
+job_fails v r w (fault.Gather e) fails = absurd fails.due
+
+pub run_fails : {T : Type 0} (v : RunWords) (r : Reads) (w : Writes) (x : Result T Fault) → IfErr x (FailsJob v.options v.counted r w) → IfErr x (FailsRun v r w)
+run_fails v r w (Ok t) fails = tt
+run_fails v r w (Err f) fails = job_fails v r w f fails
+
 -- a run keeps what was written, or a write failed
-run_kept : (v : RunWords) (r : Reads) (w : Writes) (f : RunFault) → FailsRun v r w f → KeptOrFailed w
-run_kept v r w unrun.Gate fails = untouched_kept r w fails
-run_kept v r w unrun.Random fails = untouched_kept r w fails
-run_kept v r w (unrun.Job e) fails = fails.kept
+run_kept : (v : RunWords) (r : Reads) (w : Writes) (f : Fault) → FailsRun v r w f → KeptOrFailed w
+run_kept v r w fault.Gate fails = untouched_kept r w fails
+run_kept v r w fault.Random fails = untouched_kept r w fails
+run_kept v r w (fault.Input e) fails = fails.kept
+run_kept v r w (fault.Lacks missing) fails = fails.kept
+run_kept v r w (fault.Run e) fails = fails.kept
+run_kept v r w (fault.Replay e) fails = absurd fails
+run_kept v r w (fault.Node e) fails = absurd fails
+run_kept v r w (fault.Gather e) fails = absurd fails
 
 -- what each wish leaves
 alone_leaves : (words : List Text) (x : Wish) (r : Reads) (w : Writes) → AsksWish words x → FailsAlone x r w → LeavesFault words r w

@@ -21,11 +21,9 @@ use Rattle.hyperball.specs.declared.cli.gather.GatherWords.{GatherWords}
 use Rattle.hyperball.specs.declared.cli.one_node.NodeWords.{NodeWords}
 use Rattle.hyperball.specs.declared.cli.orders.OrdersError.{OrdersError}
 use Rattle.hyperball.specs.declared.cli.orders.OrdersError.TheVariants as orders_error
-use Rattle.hyperball.specs.declared.cli.run.RunFault.{RunFault}
-use Rattle.hyperball.specs.declared.cli.run.RunFault.TheVariants as unrun
 use Rattle.hyperball.specs.declared.cli.run.RunWords.{RunWords}
-use Rattle.hyperball.specs.declared.serve.Fault.{Fault}
-use Rattle.hyperball.specs.declared.serve.Fault.TheVariants as unserved
+use Rattle.hyperball.specs.declared.fault.Fault.{Fault}
+use Rattle.hyperball.specs.declared.fault.Fault.TheVariants as fault
 use Rattle.node.specs.Gathering.{GathersJob}
 use Rattle.node.specs.NoNode.{HasNoNode, IsNoNode}
 use Rattle.node.specs.NoReport.{HasNoReport, IsUnwritten, WritesFrontOfJob}
@@ -62,10 +60,13 @@ Does (wish.Gather v) r w = DoesGather v r w
 
 -- ---- failed
 -- a run ends with this fault: before anything is read, or in its job
-abbrev pub FailsRun : RunWords → Reads → Writes → RunFault → Type 0
-FailsRun v r w unrun.Gate = Untouched r w
-FailsRun v r w unrun.Random = Untouched r w
-FailsRun v r w (unrun.Job e) = FailsJob v.options v.counted r w e
+abbrev pub FailsRun : RunWords → Reads → Writes → Fault → Type 0
+FailsRun v r w fault.Gate = Untouched r w
+FailsRun v r w fault.Random = Untouched r w
+FailsRun v r w (fault.Input e) = FailsJob v.options v.counted r w (fault.Input e)
+FailsRun v r w (fault.Lacks missing) = FailsJob v.options v.counted r w (fault.Lacks missing)
+FailsRun v r w (fault.Run e) = FailsJob v.options v.counted r w (fault.Run e)
+FailsRun v r w f = ⊥
 
 -- a node ends with this fault: which it is of the job or of its requests, what was answered before, and which calls failed
 pub record FailsNode (v : NodeWords) (r : Reads) (w : Writes) (f : ServeNodeError) : Type 0 where
@@ -97,12 +98,15 @@ pub record FailsGather (v : GatherWords) (r : Reads) (w : Writes) (f : GatherErr
 
 -- a wish fails with this: there are no random words, and nothing was read or written; or the fault is its command's own
 abbrev pub FailsBy : Wish → Reads → Writes → Fault → Type 0
-FailsBy x r w unserved.Random = Untouched r w
-FailsBy (wish.Run v) r w (unserved.Run f) = FailsRun v r w f
-FailsBy (wish.Replay v) r w (unserved.Replay f) = FailsReplay v r w f
-FailsBy (wish.Node v) r w (unserved.Node f) = FailsNode v r w f
-FailsBy (wish.Gather v) r w (unserved.Gather f) = FailsGather v r w f
-FailsBy x r w f = ⊥
+FailsBy (wish.Run v) r w f = FailsRun v r w f
+FailsBy (wish.Replay v) r w fault.Random = Untouched r w
+FailsBy (wish.Replay v) r w f = FailsReplay v r w f
+FailsBy (wish.Node v) r w fault.Random = Untouched r w
+FailsBy (wish.Node v) r w (fault.Node f) = FailsNode v r w f
+FailsBy (wish.Node v) r w f = ⊥
+FailsBy (wish.Gather v) r w fault.Random = Untouched r w
+FailsBy (wish.Gather v) r w (fault.Gather f) = FailsGather v r w f
+FailsBy (wish.Gather v) r w f = ⊥
 
 -- it ends with some fault
 pub record FailsSo {F : Type 0} (Fails : F → Type 0) : Type 0 where

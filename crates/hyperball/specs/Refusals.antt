@@ -1,5 +1,5 @@
 -- What a run reports of an input, and what a fault of it says of the options and of the input.
-use Rattle.std.specs.Prelude.{◌≡◌, ◌≢◌, ◌<◌, ◌≤◌, ⊤, ℕ, Bool, true, false, List, length, Option, IfSome, Ok, Err}
+use Rattle.std.specs.Prelude.{◌≡◌, ◌≢◌, ◌<◌, ◌≤◌, ℕ, Bool, true, false, List, length, Option, IfSome, Ok, Err}
 use Rattle.ball_model.specs.Input.{IsPlain}
 use Rattle.ball_model.specs.RunText.{AppendsReport, ArePlain, Settings}
 use Rattle.ball_model.specs.Streams.{Rises, RisesByOne}
@@ -7,9 +7,9 @@ use Rattle.job.specs.Job.{settings_of}
 use Rattle.edgelist.specs.Reading.{CountsOne}
 use Rattle.edgelist.specs.declared.limits.EdgeError.TheVariants as edge_fault
 use Rattle.hyperball.specs.Streams.{KeptOrFailed, Reads, Writes}
-use Rattle.hyperball.specs.Whole.{Parts, ReadsWhole, parts_in}
-use Rattle.hyperball.specs.declared.cli.run.JobFault.{JobFault}
-use Rattle.hyperball.specs.declared.cli.run.JobFault.TheVariants as fault
+use Rattle.hyperball.specs.Whole.{IsUnread, Parts, ReadsWhole, parts_in}
+use Rattle.hyperball.specs.declared.fault.Fault.{Fault}
+use Rattle.hyperball.specs.declared.fault.Fault.TheVariants as fault
 use Rattle.hyperball.specs.declared.whole.Lack.TheVariants as lack
 use Rattle.job.specs.declared.limits.TheConstants.{MOST_BYTES}
 use Rattle.workers.specs.Options.{run_job}
@@ -56,35 +56,30 @@ pub record BeginsToReport (s : Settings) (counted : Bool) (input : List ℕ)
 
 -- what a fault says of the options, and of the input that a reader tells: only a run with a list reads it whole, and all
 -- that it may lack is the list
-abbrev pub IsFault : RunOptions → Bool → Option (List ℕ) → JobFault → Type 0
+abbrev pub IsFault : RunOptions → Bool → Option (List ℕ) → Fault → Type 0
 IsFault o counted told (fault.Input e) = counted ≡ true
 IsFault o counted told (fault.Lacks missing) =
     (counted ≡ true) × ((missing ≡ lack.List)
     × IfSome told (λ input. parts_in counted false input ≡ Err missing))
 IsFault o counted told (fault.Run e) =
     IsFaultIn o e × IfSome told (λ input. RefusesInput (settings_of (run_job o)) counted input e)
-
--- the input was not read whole
-abbrev pub IsUnreadJob : JobFault → Type 0
-IsUnreadJob (fault.Input e) = ⊤
-IsUnreadJob (fault.Lacks missing) = ⊥
-IsUnreadJob (fault.Run e) = ⊥
+IsFault o counted told f = ⊥
 
 -- what a run with a list does with its reader, and which faults it tells of that: it reads the input whole, and one that is
 -- too long is not read whole
-pub record RefusesListed (r : Reads) (e : JobFault) : Type 0 where
+pub record RefusesListed (r : Reads) (e : Fault) : Type 0 where
   pub whole : ReadsWhole r (λ x. e ≡ fault.Input x)
-  pub long : IfSome r.bytes.old (λ input. MOST_BYTES < length input → IsUnreadJob e)
+  pub long : IfSome r.bytes.old (λ input. MOST_BYTES < length input → IsUnread e)
   pub edges : e ≢ fault.Run (run_fault.Edges edge_fault.Read)
 
 -- and a run without one: it reads an edge list
-pub record RefusesUnlisted (r : Reads) (e : JobFault) : Type 0 where
+pub record RefusesUnlisted (r : Reads) (e : Fault) : Type 0 where
   pub read : e ≡ fault.Run (run_fault.Edges edge_fault.Read) → Rises r.failed.old r.failed.new
   pub failed : CountsOne r.failed.old r.failed.new →
       e ≡ fault.Run (run_fault.Edges edge_fault.Read)
 
 -- a run by these options, with a list of counted vertices or without, ends with this fault
-pub record FailsJob (o : RunOptions) (counted : Bool) (r : Reads) (w : Writes) (e : JobFault) :
+pub record FailsJob (o : RunOptions) (counted : Bool) (r : Reads) (w : Writes) (e : Fault) :
     Type 0 where
   pub due : IsFault o counted r.bytes.old e
   pub listed : counted ≡ true → RefusesListed r e

@@ -7,11 +7,11 @@ use Rattle.ball_model.specs.Streams.{Rises, RisesByOne}
 use Rattle.ball_model.specs.WorldText.{AppendsReplay, HasCommands}
 use Rattle.hyperball.specs.CommandLine.{Parsers, TakeNames, hyperball_app}
 use Rattle.hyperball.specs.Streams.{Reads, Writes}
-use Rattle.hyperball.specs.Whole.{ReadsWhole, parts_in}
+use Rattle.hyperball.specs.Whole.{IsUnread, ReadsWhole, parts_in}
 use Rattle.hyperball.specs.Words.{AreJobOptionsOf, IsFlag, IsNumberOr}
 use Rattle.hyperball.specs.declared.cli.replay.ReplayWords.{ReplayWords}
-use Rattle.hyperball.specs.declared.cli.replay.ReplayFault.{ReplayFault}
-use Rattle.hyperball.specs.declared.cli.replay.ReplayFault.TheVariants as fault
+use Rattle.hyperball.specs.declared.fault.Fault.{Fault}
+use Rattle.hyperball.specs.declared.fault.Fault.TheVariants as fault
 use Rattle.hyperball.specs.declared.whole.Lack.{Lack}
 use Rattle.job.specs.declared.input.JobInput.{JobInput}
 use Rattle.job.specs.declared.limits.TheConstants.{MOST_BYTES}
@@ -90,32 +90,28 @@ pub record FailsOver (v : ReplayWords) (input : List ℕ) (w : Writes) (e : Repl
       w.contents.old w.contents.new w.failed.old w.failed.new e
 
 -- what a fault says of an input: that it lacks a part, or how the replay fails
-abbrev pub IsReplayFault : ReplayWords → List ℕ → Writes → ReplayFault → Type 0
+abbrev pub IsReplayFault : ReplayWords → List ℕ → Writes → Fault → Type 0
 IsReplayFault v input w (fault.Input e) = ⊤
 IsReplayFault v input w (fault.Lacks missing) = parts_in v.counted true input ≡ Err missing
 IsReplayFault v input w (fault.Replay e) = FailsOver v input w e
+IsReplayFault v input w f = ⊥
 
 -- what a fault leaves, whatever the input is: all but two leave the writer as it was, and one that says that a write
 -- failed comes only if one did
-abbrev pub Leaves : Writes → ReplayFault → Type 0
+abbrev pub Leaves : Writes → Fault → Type 0
 Leaves w (fault.Input e) = Keeps w.contents.old w.contents.new
 Leaves w (fault.Lacks missing) = Keeps w.contents.old w.contents.new
 Leaves w (fault.Replay e) =
     (e ≢ unanswered.Memory → e ≢ unanswered.Write → Keeps w.contents.old w.contents.new)
     × (e ≡ unanswered.Write → RisesByOne w.failed.old w.failed.new)
-
--- the input was not read whole
-abbrev pub IsUnread : ReplayFault → Type 0
-IsUnread (fault.Input e) = ⊤
-IsUnread (fault.Lacks missing) = ⊥
-IsUnread (fault.Replay e) = ⊥
+Leaves w f = ⊥
 
 -- an input that is too long is not read whole
-abbrev pub RefusesLong : Option (List ℕ) → ReplayFault → Type 0
+abbrev pub RefusesLong : Option (List ℕ) → Fault → Type 0
 RefusesLong told f = IfSome told (λ input. MOST_BYTES < length input → IsUnread f)
 
 -- of an input that lacks a part this is said, if it is read whole
-abbrev pub RefusesLack : ReplayWords → Option (List ℕ) → ReplayFault → Type 0
+abbrev pub RefusesLack : ReplayWords → Option (List ℕ) → Fault → Type 0
 RefusesLack v told f = IfSome told (λ input. (missing : Lack) →
     parts_in v.counted true input ≡ Err missing → IsUnread f ⊎ (f ≡ fault.Lacks missing))
 
@@ -125,7 +121,7 @@ BeginsToServe v r w = Keeps w.contents.old w.contents.new
     ⊎ IfSome r.bytes.old (λ input. BeginsAnswers v input w.contents.old w.contents.new)
 
 -- a replay ends with this fault
-pub record FailsReplay (v : ReplayWords) (r : Reads) (w : Writes) (f : ReplayFault) : Type 0 where
+pub record FailsReplay (v : ReplayWords) (r : Reads) (w : Writes) (f : Fault) : Type 0 where
   pub due : IfSome r.bytes.old (λ input. IsReplayFault v input w f)
   pub left : Leaves w f
   pub begun : BeginsToServe v r w

@@ -1,8 +1,11 @@
 -- Inputs that are read whole, and their parts.
-use Rattle.std.specs.Prelude.{◌≡◌, ℕ, ◌+◌, ◌<◌, Bool, true, false, List, length, Option, None, Some, IfSome, Result, Ok, Err}
+use Rattle.std.specs.Prelude.{◌≡◌, ⊤, ℕ, ◌+◌, ◌<◌, Bool, true, false, List, length}
+use Rattle.std.specs.Prelude.{Option, None, Some, IfSome, Result, Ok, Err}
 use Rattle.ball_model.specs.Sections.{sections_of}
 use Rattle.ball_model.specs.Streams.{Rises, RisesByOne, TakesAtMost}
 use Rattle.hyperball.specs.Streams.{Reads}
+use Rattle.hyperball.specs.declared.fault.Fault.{Fault}
+use Rattle.hyperball.specs.declared.fault.Fault.TheVariants as unserved
 use Rattle.hyperball.specs.declared.whole.Lack.{Lack}
 use Rattle.hyperball.specs.declared.whole.Lack.TheVariants as lack
 use Rattle.hyperball.specs.declared.whole.WholeError.{WholeError}
@@ -16,6 +19,11 @@ ReadsFew old new = TakesAtMost (MOST_BYTES + 1) old new
 -- these are all bytes of the input
 abbrev pub IsWholeInput : Option (List ℕ) → List ℕ → Type 0
 IsWholeInput old bytes = IfSome old (λ input. bytes ≡ input)
+
+-- the fault is that the input was not read whole
+abbrev pub IsUnread : Fault → Type 0
+IsUnread (unserved.Input e) = ⊤
+IsUnread f = ⊥
 
 -- the input has more bytes than it may have
 abbrev pub IsLong : Option (List ℕ) → Type 0

@@ -1,7 +1,7 @@
 //! The command line, read by `clap`: the subcommands, each in a file with its words and what they do, and what the words
 //! of a whole line ask for.
 
-ghost use Rattle.std.specs.Prelude.{◌≡◌, [], Err, IfOk, IfSome, List, true};
+ghost use Rattle.std.specs.Prelude.{◌≡◌, [], Err, IfErr, IfOk, IfSome, List, true};
 ghost use Rattle.clap.specs.Words.{App, has_subcommand, subcommand_rows_of, with_subcommand};
 ghost use Rattle.clap.specs.declared.error.kind.ErrorKind.{ErrorKind};
 ghost use Rattle.hyperball.specs.CommandLine.{IsApp, Parsers, TakeNames, hyperball_app};
@@ -26,11 +26,14 @@ use crate::cli::options::{delimiters, estimates};
 use crate::cli::orders::OrdersError;
 use crate::cli::replay::{ReplayWords, replay_command, replay_words_of};
 use crate::cli::run::{RunWords, run_command, run_words};
+use crate::fault::Fault;
 use crate::lines::News;
 use crate::progress::foretold;
 use clap::{ArgMatches, Command, Error};
 use job::JobOptions;
 use std::alloc::{AllocError, Global};
+use std::hash::RandomState;
+use std::random::RandomSource;
 
 const VERSION: &str = "0.1.0";
 
@@ -137,6 +140,18 @@ pub struct Server<'a, H, T> {
     pub rt: &'a H,
     /// Who tells how it gets on.
     pub teller: &'a Option<T>,
+}
+
+impl<'a, H: RandomSource, T> Server<'a, H, T> {
+    /// Random words to hash labels by.
+    pub fn random_state(&self) -> Result<RandomState, Fault>
+        ensures { IfErr result (λ e. e ≡ Fault.Random) }
+    {
+        match RandomState::new(self.rt) {
+            Ok(state) => Ok(state),
+            Err(_) => Err(Fault::Random),
+        }
+    }
 }
 
 /// Why words are no command.

@@ -26,6 +26,7 @@
 #![tactic(auto)]
 
 pub mod cli;
+pub mod fault;
 pub mod hints;
 pub mod laws;
 pub mod lines;
@@ -55,7 +56,7 @@ fn tell_no_words(rt: &HostRuntime, error: io::Error) -> u8 {
         let _ = writeln!(faults, "error: a word is not valid UTF-8");
         return 2;
     }
-    serve::tell_fault(&mut faults, error)
+    fault::tell_fault(&mut faults, error)
 }
 
 // What a user is to know before anything is read: that the input is to be typed, and that no plan has the numbers.
@@ -94,7 +95,7 @@ fn main(rt: HostRuntime) -> ExitCode {
     let mut faults = rt.stderr();
     let stdin = match BufReader::new(rt.alloc(), rt.stdin()) {
         Ok(stdin) => stdin,
-        Err(error) => return ExitCode::from(serve::tell_fault(&mut faults, error)),
+        Err(error) => return ExitCode::from(fault::tell_fault(&mut faults, error)),
     };
     let mut reader = HintingReader::new(
         CountingReader::new(stdin),

@@ -17,39 +17,26 @@ ghost use Rattle.hyperball.specs.Words.{AsksProgress, FailsFor, HasFaults, texts
 use crate::cli::gather::gather_by;
 use crate::cli::one_node::node_by;
 use crate::cli::orders::OrdersError;
-use crate::cli::replay::{ReplayFault, replay_by};
-use crate::cli::run::{RunFault, run_by};
+use crate::cli::replay::replay_by;
+use crate::cli::run::run_by;
 use crate::cli::{Server, Wish, WordsError, read_words};
+use crate::fault::{Fault, tell_fault};
 use crate::progress::{LendTeller, Teller};
 use ball_model::{CountedRead, CountedWrite, put_all};
 use clap::error::ErrorKind;
-use node::error::{GatherError, ServeNodeError};
 use std::alloc::{AllocGlobal, Global};
 use std::fmt::Display;
-use std::hash::RandomState;
 use std::io::Write;
 use std::random::RandomSource;
 use std::sync::Wait;
 use std::thread::Threads;
 use std::time::Clock;
-use thiserror::Error;
 
 /// The status of a command that is done, or of help or the version that was asked for.
 const DONE: u8 = 0;
 
-/// The status of a fault.
-const FAULT: u8 = 1;
-
 /// The status of words that are refused.
 const MISTAKE: u8 = 2;
-
-/// Tells a fault in one line, which is dropped if it cannot be written, and gives the status of a fault.
-pub fn tell_fault<F: Write>(faults: &mut F, fault: impl Display + Drop) -> u8
-    ensures { result ≡ 1 }
-{
-    let _ = writeln!(faults, "hyperball: {fault}");
-    FAULT
-}
 
 // Writes help, or the version, that was asked for.
 fn tell_help<D: Display, W: CountedWrite, F: Write>(
@@ -195,22 +182,6 @@ fn end_telling<F: LendTeller>(teller: Option<F::Teller>, faults: &mut F)
     }
 }
 
-// Why a command is not done.
-#[derive(Clone, Copy, Debug, Error)]
-enum Fault {
-    // There are no random words to hash labels by.
-    #[error("the system gives no random words")]
-    Random,
-    #[error(transparent)]
-    Run(RunFault),
-    #[error(transparent)]
-    Replay(ReplayFault),
-    #[error(transparent)]
-    Node(ServeNodeError),
-    #[error(transparent)]
-    Gather(GatherError),
-}
-
 // Does what words ask for. Without random words nothing is read or written.
 fn fulfil<
     H: AllocGlobal + Clock + RandomSource + Threads + Wait + Sync,
@@ -228,35 +199,23 @@ fn fulfil<
 {
     match wish {
         // (A run first makes its gate, and then looks for random words itself.)
-        Wish::Run(words) => match run_by(server, words, reader, writer) {
-            Ok(()) => Ok(()),
-            Err(fault) => Err(Fault::Run(fault)),
-        },
+        Wish::Run(words) => run_by(server, words, reader, writer),
         Wish::Replay(words) => {
-            let Ok(state) = RandomState::new(server.rt) else {
-                return Err(Fault::Random);
-            };
-            match replay_by(server, state, &words, reader, writer) {
-                Ok(()) => Ok(()),
-                Err(fault) => Err(Fault::Replay(fault)),
-            }
+            let state = server.random_state()?;
+            replay_by(server, state, &words, reader, writer)
         }
         Wish::Node(words) => {
-            let Ok(state) = RandomState::new(server.rt) else {
-                return Err(Fault::Random);
-            };
+            let state = server.random_state()?;
             match node_by(server, state, &words, reader, writer) {
                 Ok(()) => Ok(()),
-                Err(fault) => Err(Fault::Node(fault)),
+                Err(error) => Err(Fault::Node(error)),
             }
         }
         Wish::Gather(words) => {
-            let Ok(state) = RandomState::new(server.rt) else {
-                return Err(Fault::Random);
-            };
+            let state = server.random_state()?;
             match gather_by(server, state, &words, reader, writer) {
                 Ok(()) => Ok(()),
-                Err(fault) => Err(Fault::Gather(fault)),
+                Err(error) => Err(Fault::Gather(error)),
             }
         }
     }

@@ -5,7 +5,7 @@ use Rattle.std.specs.List.{list_all, list_any}
 use Rattle.std.proofs.lemmas.Bool.{and_parts}
 use Rattle.ball_model.specs.State.{State}
 use Rattle.workers.specs.declared.ends.Faults.{Faults}
-use Rattle.workers.specs.declared.ends.JobError.{JobError}
+use Rattle.workers.specs.declared.runs.RunError.{RunError}
 use Rattle.workers.specs.declared.worker.node_run.NodeEnd.{NodeEnd}
 use Rattle.workers.specs.declared.worker.node_run.NodeEnd.TheVariants as ends
 use Rattle.workers.specs.declared.worker.node_run.NodeError.{NodeError}
@@ -159,8 +159,8 @@ here_done items own rest all next h = and_parts (list_any is_done (items own)) (
 pub none_has : (rs : List (Result NodeEnd NodeError)) → first_done rs ≡ None → list_any is_done rs ≡ true → ⊥
 none_has rs none some = let same : false ≡ true = sym (ap (λ (o : Option State). is_some o) none) ∙ (first_has rs ∙ some) in absurd (cc)
 
-pub fault_told : {V : Type 0} (items : V → List (Result NodeEnd NodeError)) (xs : List V) (e : JobError) → each_has_done items xs ≡ false → e ≡ first_fault items xs → Some e ≡ fault_in items xs
-fault_told items xs e lacking is = ap (λ (x : JobError). Some x) is ∙ sym (ap (λ (b : Bool). fault_unless b (first_fault items xs)) lacking)
+pub fault_told : {V : Type 0} (items : V → List (Result NodeEnd NodeError)) (xs : List V) (e : RunError) → each_has_done items xs ≡ false → e ≡ first_fault items xs → Some e ≡ fault_in items xs
+fault_told items xs e lacking is = ap (λ (x : RunError). Some x) is ∙ sym (ap (λ (b : Bool). fault_unless b (first_fault items xs)) lacking)
 
 -- ---- a partition whose nodes are all noted
 noted_all : (p k : ℕ) (rest own : List (Result NodeEnd NodeError)) (old now : Faults) → rest ≡ [] → with_rest p k rest now ≡ with_rest p 0 own old → now ≡ with_rest p 0 own old

@@ -11,8 +11,8 @@ use Rattle.ball_model.specs.State.{State}
 use Rattle.board.specs.Rule.{share}
 use Rattle.board.specs.Seats.{BoardView, SeatView, SharesNumbers}
 use Rattle.workers.specs.declared.ends.Faults.{Faults}
-use Rattle.workers.specs.declared.ends.JobError.{JobError}
-use Rattle.workers.specs.declared.ends.JobError.TheVariants as job
+use Rattle.workers.specs.declared.runs.RunError.{RunError}
+use Rattle.workers.specs.declared.runs.RunError.TheVariants as run
 use Rattle.workers.specs.declared.worker.node_run.NodeEnd.{NodeEnd}
 use Rattle.workers.specs.declared.worker.node_run.NodeEnd.TheVariants as ends
 use Rattle.workers.specs.declared.worker.node_run.NodeError.{NodeError}
@@ -154,8 +154,8 @@ length_map f (x ∷ xs) = ap suc (length_map f xs)
 ends_map : {V : Type 0} (items : V → List (Result NodeEnd NodeError)) (j : Job) (o : RunOptions) (xs : List V) → AreEnds items j o xs → AreEnds (λ own. own) j o (map items xs)
 ends_map items j o xs h = record { count = length_map items xs ∙ h.count; each = each_map items (λ p own. IsPartEnd j o p own) 0 xs h.each }
 
-pub first_of_ends : {T V : Type 0} (items : V → List (Result NodeEnd NodeError)) (j : Job) (o : RunOptions) (xs : List V) (r : Result T JobError) → AreEnds items j o xs →
-    IfErr r (λ e. e ≢ job.Memory → e ≡ first_fault items xs) → IfErr r (λ e. e ≢ job.Memory → each_has_done items xs ≡ false) → IfErr r (λ e. e ≢ job.Memory → IsFirstFault j o e)
+pub first_of_ends : {T V : Type 0} (items : V → List (Result NodeEnd NodeError)) (j : Job) (o : RunOptions) (xs : List V) (r : Result T RunError) → AreEnds items j o xs →
+    IfErr r (λ e. e ≢ run.Memory → e ≡ first_fault items xs) → IfErr r (λ e. e ≢ run.Memory → each_has_done items xs ≡ false) → IfErr r (λ e. e ≢ run.Memory → IsFirstFault j o e)
 first_of_ends items j o xs (Ok x) all first lacking = tt
 first_of_ends items j o xs (Err e) all first lacking = λ other. record {
   ends = map items xs;

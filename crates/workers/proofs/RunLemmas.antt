@@ -22,8 +22,6 @@ use Rattle.job.specs.declared.job.NetworkError.{NetworkError}
 use Rattle.job.specs.declared.job.NetworkError.TheVariants as unread
 use Rattle.edgelist.specs.declared.limits.EdgeError.{EdgeError}
 use Rattle.edgelist.specs.declared.limits.EdgeError.TheVariants as edge
-use Rattle.workers.specs.declared.ends.JobError.{JobError}
-use Rattle.workers.specs.declared.ends.JobError.TheVariants as job
 use Rattle.workers.specs.declared.options.RunOptions.{RunOptions}
 use Rattle.workers.specs.declared.runs.RunError.{RunError}
 use Rattle.workers.specs.declared.runs.RunError.TheVariants as fault
@@ -31,7 +29,7 @@ use Rattle.workers.specs.declared.runs.RunError.TheVariants.{Write}
 use Rattle.ball_model.specs.Job.{job_of}
 use Rattle.workers.specs.Job.{IsFaultOf, IsFirstFault}
 use Rattle.workers.specs.Options.{are_in_limits, run_job}
-use Rattle.workers.specs.Run.{AddsFront, AddsReport, HasFirstFault, IsFaultIn, IsRunFault, IsRunRefusal, RefusesEdges, WherePlain, job_fault, network_fault}
+use Rattle.workers.specs.Run.{AddsFront, AddsReport, HasFirstFault, IsFaultIn, IsOfEnds, IsRunFault, IsRunRefusal, RefusesEdges, WherePlain, network_fault}
 
 -- what holds of plain bytes, and what follows from it
 pub where_weaker : (o : RunOptions) (told : Option (List ℕ)) (counted : Option (Bor (List ℕ))) (P Q : Settings → List ℕ → Option (List ℕ) → Type 0) → ((input : List ℕ) → P (settings_of (run_job o)) input (list_in counted) → Q (settings_of (run_job o)) input (list_in counted)) → WherePlain o told counted P → WherePlain o told counted Q
@@ -166,11 +164,16 @@ pub planned : (n : Numbers) (g : Graph) (q : PlanValue) → ◌≡◌ {A = Resul
 planned n g q is = sym is ∙ (rw (← is) at (plan_or_fault (run_limits n.large).vertices (plan_over n g)))
 
 -- a fault of the nodes, where there is a plan
-refuses_job : (n : Numbers) (network : Network) (e : JobError) → HasPlan n network → RefusesNetwork n network (job_fault e)
-refuses_job n network (job.PartitionLost p) h = h
-refuses_job n network job.BookFull h = h
-refuses_job n network job.Memory h = h
-refuses_job n network (job.Starved node s q) h = h
+refuses_job : (n : Numbers) (network : Network) (o : RunOptions) (e : RunError) → IsFaultOf o.parts o e → HasPlan n network → RefusesNetwork n network e
+refuses_job n network o fault.Options due h = absurd due
+refuses_job n network o (fault.Edges e) due h = absurd due
+refuses_job n network o (fault.Counted e) due h = absurd due
+refuses_job n network o (fault.Plan e) due h = absurd due
+refuses_job n network o (fault.PartitionLost p) due h = h
+refuses_job n network o fault.BookFull due h = h
+refuses_job n network o fault.Memory due h = h
+refuses_job n network o (fault.Starved node s q) due h = h
+refuses_job n network o fault.Write due h = absurd due
 
 -- the text under the plan that is asked for is the network's report
 pub report_planned : (n : Numbers) (network : Network) (q : PlanValue) (text : List ℕ) → ◌≡◌ {A = Result PlanValue PlanError} (Ok q) (plan_asked n network.graph) → text ≡ report_of (mixing_of q) network.graph network.labels q.limit → IsReportOf n network text
@@ -181,42 +184,16 @@ report_planned n network q text is h =
     record { planned = plan; text_is = h ∙ ap (λ (a : PlanValue). report_of (mixing_of a) network.graph network.labels a.limit) same }
 
 -- ---- the first fault of the nodes' ends
--- the fault of the nodes that an error of a run tells
-told_fault : RunError → JobError
-told_fault fault.Options = job.Memory
-told_fault (fault.Edges e) = job.Memory
-told_fault (fault.Counted e) = job.Memory
-told_fault (fault.Plan e) = job.Memory
-told_fault (fault.PartitionLost p) = job.PartitionLost p
-told_fault fault.BookFull = job.BookFull
-told_fault fault.Memory = job.Memory
-told_fault (fault.Starved node r q) = job.Starved node r q
-told_fault fault.Write = job.Memory
-
-told_back : (f : JobError) → told_fault (job_fault f) ≡ f
-unfolding told_fault
-told_back (job.PartitionLost p) = refl
-told_back job.BookFull = refl
-told_back job.Memory = refl
-told_back (job.Starved node s q) = refl
-
-none_told : (e : RunError) (f : JobError) → told_fault e ≡ job.Memory → f ≢ job.Memory → e ≡ job_fault f → ⊥
-none_told e f none other is = other (sym (told_back f) ∙ (ap told_fault (sym is) ∙ none))
-
 -- of a network that was read
-job_first : (o : RunOptions) (network : Network) (plan : PlanValue) (e : JobError) → plan_asked (numbers_asked (run_job o)) network.graph ≡ Ok plan → (e ≢ job.Memory → IsFirstFault (job_of network.graph plan) o e) →
-    (f : JobError) → f ≢ job.Memory → job_fault e ≡ job_fault f → HasFirstFault o network f
-job_first o network plan e asked first f other is =
-    let same : e ≡ f = sym (told_back e) ∙ (ap told_fault is ∙ told_back f) in
-    record { plan = plan; planned = asked; first = subst (IsFirstFault (job_of network.graph plan) o) same (first (λ m. other (sym same ∙ m))) }
+job_first : (o : RunOptions) (network : Network) (plan : PlanValue) (e : RunError) → plan_asked (numbers_asked (run_job o)) network.graph ≡ Ok plan → (e ≢ fault.Memory → IsFirstFault (job_of network.graph plan) o e) → IsOfEnds e → HasFirstFault o network e
+job_first o network plan e asked first own = record { plan = plan; planned = asked; first = first (λ is. subst IsOfEnds is own) }
 
 -- where the network is not read
-unread_told : (e : NetworkError) → told_fault (network_fault e) ≡ job.Memory
-unfolding told_fault
-unread_told (unread.Edges e) = refl
-unread_told (unread.Counted e) = refl
+unread_own : (e : NetworkError) → IsOfEnds (network_fault e) → ⊥
+unread_own (unread.Edges e) own = own
+unread_own (unread.Counted e) own = own
 
-network_first : (o : RunOptions) (told : Option (List ℕ)) (counted : Option (Bor (List ℕ))) (network : Network) (f : JobError) → WherePlain o told counted (λ s input list. AreRead s input list network) → HasFirstFault o network f →
+network_first : (o : RunOptions) (told : Option (List ℕ)) (counted : Option (Bor (List ℕ))) (network : Network) (f : RunError) → WherePlain o told counted (λ s input list. AreRead s input list network) → HasFirstFault o network f →
     WherePlain o told counted (λ s input list. IsRunFault o s input list f)
 network_first o told counted network f read first =
     where_weaker o told counted (λ s input list. AreRead s input list network) (λ s input list. IsRunFault o s input list f)
@@ -230,7 +207,7 @@ pub record TellsNone (o : RunOptions) (told : Option (List ℕ)) (counted : Opti
   pub edges : ForPlain told (λ input. RefusesEdges (settings_of (run_job o)) input e)
   pub options : IsFaultIn o e
   pub unwritten : e ≢ fault.Write
-  pub first : (f : JobError) → f ≢ job.Memory → e ≡ job_fault f → WherePlain o told counted (λ s input list. IsRunFault o s input list f)
+  pub first : IsOfEnds e → WherePlain o told counted (λ s input list. IsRunFault o s input list e)
 
 -- the network is not read
 pub unread_by : (o : RunOptions) (asked : JobOptions) (told : Option (List ℕ)) (counted : Option (Bor (List ℕ))) (e : NetworkError) → asked ≡ run_job o → edges.WherePlain told counted (λ input list. edges.RefusesRead (settings_of asked) input list e) → ForPlain told (λ input. edges.RefusesEdges (settings_of asked) input e) → TellsNone o told counted (network_fault e)
@@ -242,7 +219,7 @@ unread_by o asked told counted e is refuses of_edges = record {
   edges = λ input known plain. refuses_edges (settings_of (run_job o)) input e (plain_job o asked told (λ s input. edges.RefusesEdges s input e) is of_edges input known plain);
   options = no_fault o e;
   unwritten = never_written e;
-  first = λ f other same. absurd (none_told (network_fault e) f (unread_told e) other same);
+  first = λ own. absurd (unread_own e own);
 }
 
 -- the network is read
@@ -263,7 +240,7 @@ reported o told counted network text read report =
     (λ input h. record { network = network; read = h; report = report }) read.all
 
 -- and there is no report for this reason
-told_none : (o : RunOptions) (told : Option (List ℕ)) (counted : Option (Bor (List ℕ))) (network : Network) (e : RunError) → IsRead o told counted network → RefusesNetwork (numbers_asked (run_job o)) network e → IsFaultIn o e → ((f : JobError) → f ≢ job.Memory → e ≡ job_fault f → HasFirstFault o network f) → TellsNone o told counted e
+told_none : (o : RunOptions) (told : Option (List ℕ)) (counted : Option (Bor (List ℕ))) (network : Network) (e : RunError) → IsRead o told counted network → RefusesNetwork (numbers_asked (run_job o)) network e → IsFaultIn o e → (IsOfEnds e → HasFirstFault o network e) → TellsNone o told counted e
 told_none o told counted network e read refuses options first = record {
   input =
       where_weaker o told counted (λ s input list. AreRead s input list network) (λ s input list. IsRunRefusal s input list e)
@@ -271,37 +248,37 @@ told_none o told counted network e read refuses options first = record {
   edges = λ input known plain. later_edge (settings_of (run_job o)) (numbers_asked (run_job o)) input network e refuses (read.edges input known plain);
   options = options;
   unwritten = λ is. subst (λ (x : RunError). RefusesNetwork (numbers_asked (run_job o)) network x) is refuses;
-  first = λ f other is. network_first o told counted network f read.all (first f other is);
+  first = λ own. network_first o told counted network e read.all (first own);
 }
 
 -- there is no such plan over it
 pub none_planned : (o : RunOptions) (told : Option (List ℕ)) (counted : Option (Bor (List ℕ))) (network : Network) (e : PlanError) → IsRead o told counted network → plan_asked (numbers_asked (run_job o)) network.graph ≡ Err e → TellsNone o told counted (fault.Plan e)
-unfolding told_fault
-none_planned o told counted network e read is = told_none o told counted network (fault.Plan e) read is tt (λ f other same. absurd (none_told (fault.Plan e) f refl other same))
+none_planned o told counted network e read is = told_none o told counted network (fault.Plan e) read is tt (λ own. absurd own)
 
 -- there is one, and memory is refused
 pub none_held : (o : RunOptions) (told : Option (List ℕ)) (counted : Option (Bor (List ℕ))) (network : Network) → IsRead o told counted network → HasPlan (numbers_asked (run_job o)) network → TellsNone o told counted fault.Memory
-unfolding told_fault
-none_held o told counted network read planned = told_none o told counted network fault.Memory read planned tt (λ f other same. absurd (none_told fault.Memory f refl other same))
+none_held o told counted network read planned = told_none o told counted network fault.Memory read planned tt (λ own. absurd own)
 
 -- and the nodes have a fault
-job_options : (o : RunOptions) (e : JobError) → IsFaultOf o.parts o e → IsFaultIn o (job_fault e)
-job_options o (job.PartitionLost p) h = h
-job_options o job.BookFull h = h
-job_options o job.Memory h = tt
-job_options o (job.Starved node s q) h = h
+job_options : (o : RunOptions) (e : RunError) → IsFaultOf o.parts o e → IsFaultIn o e
+job_options o fault.Options h = absurd h
+job_options o (fault.Edges e) h = absurd h
+job_options o (fault.Counted e) h = absurd h
+job_options o (fault.Plan e) h = absurd h
+job_options o (fault.PartitionLost p) h = h
+job_options o fault.BookFull h = h
+job_options o fault.Memory h = tt
+job_options o (fault.Starved node s q) h = h
+job_options o fault.Write h = absurd h
 
-pub none_done : (o : RunOptions) (told : Option (List ℕ)) (counted : Option (Bor (List ℕ))) (network : Network) (plan : PlanValue) (e : JobError) → IsRead o told counted network → ◌≡◌ {A = Result PlanValue PlanError} (Ok plan) (plan_asked (numbers_asked (run_job o)) network.graph) → IsFaultOf o.parts o e → (e ≢ job.Memory → IsFirstFault (job_of network.graph plan) o e) → TellsNone o told counted (job_fault e)
+pub none_done : (o : RunOptions) (told : Option (List ℕ)) (counted : Option (Bor (List ℕ))) (network : Network) (plan : PlanValue) (e : RunError) → IsRead o told counted network → ◌≡◌ {A = Result PlanValue PlanError} (Ok plan) (plan_asked (numbers_asked (run_job o)) network.graph) → IsFaultOf o.parts o e → (e ≢ fault.Memory → IsFirstFault (job_of network.graph plan) o e) → TellsNone o told counted e
 none_done o told counted network plan e read asked options first =
-    told_none o told counted network (job_fault e) read (refuses_job (numbers_asked (run_job o)) network e (planned (numbers_asked (run_job o)) network.graph plan asked)) (job_options o e options)
+    told_none o told counted network e read (refuses_job (numbers_asked (run_job o)) network o e options (planned (numbers_asked (run_job o)) network.graph plan asked)) (job_options o e options)
     (job_first o network plan e (sym asked) first)
 
 -- no fault of the nodes is one of the edge list
-pub unread_edges : (e : JobError) (x : EdgeError) → job_fault e ≢ fault.Edges x
-unread_edges (job.PartitionLost p) x is = absurd (cc)
-unread_edges job.BookFull x is = absurd (cc)
-unread_edges job.Memory x is = absurd (cc)
-unread_edges (job.Starved node s q) x is = absurd (cc)
+pub unread_edges : (o : RunOptions) (e : RunError) (x : EdgeError) → IsFaultOf o.parts o e → e ≢ fault.Edges x
+unread_edges o e x due is = subst (IsFaultOf o.parts o) is due
 
 -- the clauses of such a run, by how many calls of the reader failed before and after
 abbrev pub EndsUnwritten : {T W : Type 0} → RunOptions → Option (List ℕ) → Option (Bor (List ℕ)) → ℕ → ℕ → (W → Option (List ℕ)) → (W → ℕ) → W → Result T RunError → Type 0
@@ -316,7 +293,7 @@ EndsUnwritten o told counted before after contents failed_calls writer r = recor
   written : r ≢ Err fault.Write → failed_calls writer ≡ failed_calls writer;
   limits : are_in_limits o ≡ false → r ≡ Err fault.Options;
   fault : IfErr r (IsFaultIn o);
-  first : (f : JobError) → f ≢ job.Memory → r ≡ Err (job_fault f) → WherePlain o told counted (λ s input list. IsRunFault o s input list f);
+  first : IfErr r (λ e. IsOfEnds e → WherePlain o told counted (λ s input list. IsRunFault o s input list e));
   untouched : IfErr r (λ e. e ≢ Write → Keeps (contents writer) (contents writer));
   begun : r ≡ Err Write → WherePlain o told counted (AddsFront contents writer writer);
 }
@@ -337,7 +314,7 @@ ends_unwritten o told counted before after contents failed_calls writer e none w
   written = λ _. refl;
   limits = λ outside. absurd (cc);
   fault = none.options;
-  first = λ f other is. none.first f other (same_error e (job_fault f) is);
+  first = none.first;
   untouched = λ _. Keeps-refl (contents writer);
   begun = λ is. absurd (none.unwritten (same_error e fault.Write is));
 }

@@ -5,9 +5,9 @@ use Rattle.std.specs.List.{list_all, list_any}
 use Rattle.ball_model.specs.declared.names.NodeId.{NodeId}
 use Rattle.ball_model.specs.State.{State}
 use Rattle.workers.specs.declared.ends.Faults.{Faults}
-use Rattle.workers.specs.declared.ends.JobError.{JobError}
-use Rattle.workers.specs.declared.ends.JobError.TheVariants as job
 use Rattle.workers.specs.declared.ends.Waiting.{Waiting}
+use Rattle.workers.specs.declared.runs.RunError.{RunError}
+use Rattle.workers.specs.declared.runs.RunError.TheVariants as run
 use Rattle.workers.specs.declared.worker.node_run.NodeEnd.{NodeEnd}
 use Rattle.workers.specs.declared.worker.node_run.NodeEnd.TheVariants as ends
 use Rattle.workers.specs.declared.worker.node_run.NodeError.{NodeError}
@@ -128,25 +128,25 @@ faults_in items all = record {
 }
 
 -- the first fault, in the order of the checks
-abbrev pub fault_by : Option ℕ → Bool → Bool → Option Waiting → JobError
-fault_by (Some p) full memory starved = job.PartitionLost p
-fault_by None true memory starved = job.BookFull
-fault_by None false true starved = job.Memory
-fault_by None false false None = job.Memory
-fault_by None false false (Some w) = job.Starved w.node w.superstep w.source
+abbrev pub fault_by : Option ℕ → Bool → Bool → Option Waiting → RunError
+fault_by (Some p) full memory starved = run.PartitionLost p
+fault_by None true memory starved = run.BookFull
+fault_by None false true starved = run.Memory
+fault_by None false false None = run.Memory
+fault_by None false false (Some w) = run.Starved w.node w.superstep w.source
 
-abbrev pub fault_noted : Faults → JobError
+abbrev pub fault_noted : Faults → RunError
 fault_noted f = fault_by f.lost f.full f.memory f.starved
 
 -- the first fault of all nodes, by their ends
-abbrev pub first_fault : {V : Type 0} → (V → List (Result NodeEnd NodeError)) → List V → JobError
+abbrev pub first_fault : {V : Type 0} → (V → List (Result NodeEnd NodeError)) → List V → RunError
 first_fault items all = fault_noted (faults_in items all)
 
 -- none if all is done, else that fault
-abbrev pub fault_unless : Bool → JobError → Option JobError
+abbrev pub fault_unless : Bool → RunError → Option RunError
 fault_unless true e = None
 fault_unless false e = Some e
 
 -- the first fault of all nodes, if some partition has no node that has reached the end
-abbrev pub fault_in : {V : Type 0} → (V → List (Result NodeEnd NodeError)) → List V → Option JobError
+abbrev pub fault_in : {V : Type 0} → (V → List (Result NodeEnd NodeError)) → List V → Option RunError
 fault_in items all = fault_unless (each_has_done items all) (first_fault items all)

@@ -8,14 +8,14 @@ use Rattle.ball_model.specs.Job.{IsJob, Job, PartValue, job_of, part_of}
 use Rattle.ball_model.specs.State.{State}
 use Rattle.board.specs.Seats.{BoardView, SeatView, IsAt}
 use Rattle.workers.specs.declared.ends.Faults.{Faults}
-use Rattle.workers.specs.declared.ends.JobError.{JobError}
-use Rattle.workers.specs.declared.ends.JobError.TheVariants as job
 use Rattle.workers.specs.declared.worker.node_run.NodeEnd.{NodeEnd}
 use Rattle.workers.specs.declared.worker.node_run.NodeError.{NodeError}
 use Rattle.workers.specs.declared.worker.node_run.NodeError.TheVariants as fault
 use Rattle.workers.specs.declared.worker.node_run.NodeOrders.{NodeOrders}
 use Rattle.workers.specs.declared.options.RunOptions.{RunOptions}
 use Rattle.workers.specs.declared.running.Running.{Running}
+use Rattle.workers.specs.declared.runs.RunError.{RunError}
+use Rattle.workers.specs.declared.runs.RunError.TheVariants as run
 use Rattle.workers.specs.declared.assignment.Assignment.{Assignment}
 use Rattle.workers.specs.Node.{FallsDue, IfDone, IfLost, IfStarved, IsDone}
 use Rattle.workers.specs.Ends.{each_has_done, first_fault}
@@ -144,7 +144,7 @@ pub record IsPartitionLost (parts : ℕ) (o : RunOptions) (p : ℕ) : Type 0 whe
   pub ordered : AllOrdered o.replicas p o.lose.items
 
 -- the first fault of the ends of all nodes, if some partition has no node that is done
-pub record IsFirstFault (j : Job) (o : RunOptions) (e : JobError) : Type 0 where
+pub record IsFirstFault (j : Job) (o : RunOptions) (e : RunError) : Type 0 where
   pub ends : List (List (Result NodeEnd NodeError))
   pub all : AreEnds (λ own. own) j o ends
   pub lacking : each_has_done (λ own. own) ends ≡ false
@@ -161,9 +161,14 @@ pub record AreDone (j : Job) (rs : List State) : Type 0 where
   pub count : length rs ≡ j.plan.parts
   pub each : EachAt (IsDone j) 0 rs
 
--- what a fault of the nodes says of the options
-abbrev pub IsFaultOf : ℕ → RunOptions → JobError → Type 0
-IsFaultOf parts o (job.PartitionLost p) = IsPartitionLost parts o p
-IsFaultOf parts o job.BookFull = parts ≡ 1 → kept_by o ≡ 0 → o.restart.items ≢ []
-IsFaultOf parts o job.Memory = ⊤
-IsFaultOf parts o (job.Starved node s q) = parts ≢ 1
+-- what a fault of the nodes says of the options; no other error of a run is one of theirs
+abbrev pub IsFaultOf : ℕ → RunOptions → RunError → Type 0
+IsFaultOf parts o run.Options = ⊥
+IsFaultOf parts o (run.Edges e) = ⊥
+IsFaultOf parts o (run.Counted e) = ⊥
+IsFaultOf parts o (run.Plan e) = ⊥
+IsFaultOf parts o (run.PartitionLost p) = IsPartitionLost parts o p
+IsFaultOf parts o run.BookFull = parts ≡ 1 → kept_by o ≡ 0 → o.restart.items ≢ []
+IsFaultOf parts o run.Memory = ⊤
+IsFaultOf parts o (run.Starved node s q) = parts ≢ 1
+IsFaultOf parts o run.Write = ⊥

@@ -11,8 +11,6 @@ use Rattle.graph.specs.Counting.{IsListRefusal}
 use Rattle.job.specs.Job.{numbers_asked, settings_of}
 use Rattle.job.specs.declared.job.NetworkError.{NetworkError}
 use Rattle.job.specs.declared.job.NetworkError.TheVariants as unread
-use Rattle.workers.specs.declared.ends.JobError.{JobError}
-use Rattle.workers.specs.declared.ends.JobError.TheVariants as job
 use Rattle.workers.specs.declared.options.RunOptions.{RunOptions}
 use Rattle.workers.specs.declared.runs.RunError.{RunError}
 use Rattle.workers.specs.declared.runs.RunError.TheVariants as fault
@@ -53,22 +51,27 @@ abbrev pub network_fault : NetworkError → RunError
 network_fault (unread.Edges e) = fault.Edges e
 network_fault (unread.Counted e) = fault.Counted e
 
--- the run's error for a fault of its nodes
-abbrev pub job_fault : JobError → RunError
-job_fault (job.PartitionLost p) = fault.PartitionLost p
-job_fault job.BookFull = fault.BookFull
-job_fault job.Memory = fault.Memory
-job_fault (job.Starved node s q) = fault.Starved node s q
+-- an error that only the ends of the nodes give: refused memory may come of more
+abbrev pub IsOfEnds : RunError → Type 0
+IsOfEnds fault.Options = ⊥
+IsOfEnds (fault.Edges e) = ⊥
+IsOfEnds (fault.Counted e) = ⊥
+IsOfEnds (fault.Plan e) = ⊥
+IsOfEnds (fault.PartitionLost p) = ⊤
+IsOfEnds fault.BookFull = ⊤
+IsOfEnds fault.Memory = ⊥
+IsOfEnds (fault.Starved node s q) = ⊤
+IsOfEnds fault.Write = ⊥
 
 -- over a network there is such a plan, and the fault is the first of the ends of all nodes
-pub record HasFirstFault (o : RunOptions) (network : Network) (e : JobError) : Type 0 where
+pub record HasFirstFault (o : RunOptions) (network : Network) (e : RunError) : Type 0 where
   pub plan : PlanValue
   pub planned : plan_asked (numbers_asked (run_job o)) network.graph ≡ Ok plan
   pub first : IsFirstFault (job_of network.graph plan) o e
 
 -- and both say that network
 pub record IsRunFault (o : RunOptions) (s : Settings) (input : List ℕ) (list : Option (List ℕ))
-    (e : JobError) : Type 0 where
+    (e : RunError) : Type 0 where
   pub network : Network
   pub read : AreRead s input list network
   pub first : HasFirstFault o network e
@@ -79,10 +82,10 @@ IsFaultIn o fault.Options = are_in_limits o ≡ false
 IsFaultIn o (fault.Edges e) = ⊤
 IsFaultIn o (fault.Counted e) = ⊤
 IsFaultIn o (fault.Plan e) = ⊤
-IsFaultIn o (fault.PartitionLost p) = IsFaultOf o.parts o (job.PartitionLost p)
-IsFaultIn o fault.BookFull = IsFaultOf o.parts o job.BookFull
+IsFaultIn o (fault.PartitionLost p) = IsFaultOf o.parts o (fault.PartitionLost p)
+IsFaultIn o fault.BookFull = IsFaultOf o.parts o fault.BookFull
 IsFaultIn o fault.Memory = ⊤
-IsFaultIn o (fault.Starved node s q) = IsFaultOf o.parts o (job.Starved node s q)
+IsFaultIn o (fault.Starved node s q) = IsFaultOf o.parts o (fault.Starved node s q)
 IsFaultIn o fault.Write = ⊤
 
 -- what a refusal says of the input: each comes only if all checks before it passed

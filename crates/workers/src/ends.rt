@@ -16,39 +16,11 @@ ghost use Rattle.workers.specs.declared.worker.node_run.NodeOrders.{NodeOrders};
 ghost use Rattle.workers.specs.declared.options.RunOptions.{RunOptions};
 
 use crate::assignment::NodeResult;
+use crate::runs::RunError;
 use crate::worker::node_run::{NodeEnd, NodeError};
 use ball_model::NodeId;
 use replica::Replica;
 use std::alloc::{AllocError, Global};
-
-/// Why a job has no replicas at its end, in the order of the checks.
-#[derive(Clone, Copy)]
-pub enum JobError {
-    /// Every node of the partition was lost. It is the least such partition.
-    PartitionLost {
-        part: u16,
-    },
-    /// A node found the book full.
-    BookFull,
-    /// Memory was refused, or a thread.
-    Memory,
-    /// A node waited in vain. It is the least such node.
-    Starved {
-        node: NodeId,
-        superstep: u32,
-        source: u16,
-    },
-}
-
-impl From<AllocError> for JobError {
-    ghost use Rattle.workers.specs.declared.ends.JobError.TheVariants.{Memory};
-
-    ghost from_gives = { λ _ e. e ≡ Memory };
-
-    fn from(_fault: AllocError) -> JobError {
-        JobError::Memory
-    }
-}
 
 /// A node that waited in vain, and for what.
 #[derive(Clone, Copy)]
@@ -82,16 +54,16 @@ impl Faults {
     }
 
     // The first of them by the order of the checks.
-    fn first(&self) -> JobError
+    fn first(&self) -> RunError
         ensures fault { (parts : ℕ) (o : RunOptions) → AreNoted parts o self.now →
             IsFaultOf parts o result }
         ensures exact { result ≡ fault_noted self.now }
     {
         if let Some(part) = self.lost {
-            return JobError::PartitionLost { part };
+            return RunError::PartitionLost { part };
         }
         if self.full {
-            return JobError::BookFull;
+            return RunError::BookFull;
         }
         match self.starved {
             Some(
@@ -100,12 +72,12 @@ impl Faults {
                     superstep,
                     source,
                 },
-            ) if !self.memory => JobError::Starved {
+            ) if !self.memory => RunError::Starved {
                 node,
                 superstep,
                 source,
             },
-            _ => JobError::Memory,
+            _ => RunError::Memory,
         }
     }
 }
@@ -187,7 +159,7 @@ fn note_part(faults: &mut Faults, p: u16, ends: &[NodeResult]) -> bool
 }
 
 // The first fault of all nodes, if some partition has no node that has reached the end. It takes no memory.
-fn fault_in(ends: &[Vec<NodeResult>]) -> Option<JobError>
+fn fault_in(ends: &[Vec<NodeResult>]) -> Option<RunError>
     requires few { All (λ own. length own.items ≤ MOST_REPLICAS) ends.now }
     requires parts { length ends.now ≤ most_parts }
     ensures exact { result ≡ fault_in (λ own. own.items) ends.now }
@@ -244,16 +216,16 @@ fn collect_done(alloc: Global, ends: Vec<Vec<NodeResult>>) -> Result<Vec<Replica
 
 /// The replica of each partition, by the ends of its nodes: that of the first node that is done. If a partition has
 /// none, the error is the first fault of all nodes; else it is `Memory`, if that is refused here.
-pub fn done_replicas(alloc: Global, ends: Vec<Vec<NodeResult>>) -> Result<Vec<Replica>, JobError>
+pub fn done_replicas(alloc: Global, ends: Vec<Vec<NodeResult>>) -> Result<Vec<Replica>, RunError>
     requires few { All (λ own. length own.items ≤ MOST_REPLICAS) ends.items }
     requires parts { length ends.items ≤ most_parts }
     ensures done { (j : Job) (o : RunOptions) → AreEnds (λ own. own.items) j o ends.items →
         IfOk result (λ rs. AreDone j rs.items) }
     ensures fault { (j : Job) (o : RunOptions) → AreEnds (λ own. own.items) j o ends.items →
         IfErr result (IsFaultOf j.plan.parts o) }
-    ensures first { IfErr result (λ e. e ≢ JobError.Memory →
+    ensures first { IfErr result (λ e. e ≢ RunError.Memory →
         e ≡ first_fault (λ own. own.items) ends.items) }
-    ensures lacking { IfErr result (λ e. e ≢ JobError.Memory →
+    ensures lacking { IfErr result (λ e. e ≢ RunError.Memory →
         each_has_done (λ own. own.items) ends.items ≡ false) }
     ensures exact { each_has_done (λ own. own.items) ends.items ≡ false →
         result ≡ Err (first_fault (λ own. own.items) ends.items) }

@@ -13,7 +13,7 @@ ghost use Rattle.workers.specs.Marks.{place_at, stop_place};
 ghost use Rattle.workers.specs.Options.{are_in_limits, is_named, kept_by, order_for, orders_for};
 
 use crate::assignment::{Assignment, NodeResult};
-use crate::ends::{JobError, done_replicas};
+use crate::ends::done_replicas;
 use crate::exchange::BoardExchange;
 use crate::gate::Gate;
 use crate::indexed::ReadyPart;
@@ -21,6 +21,7 @@ use crate::marks::Look;
 use crate::options::RunOptions;
 use crate::planned::Planned;
 use crate::running::{RunGate, Running};
+use crate::runs::RunError;
 use crate::threads::share_of;
 use crate::worker::Worker;
 use crate::worker::node_run::{NodeError, NodeOrders};
@@ -409,13 +410,13 @@ pub fn run_job<'a, R: AllocGlobal + Threads + Wait + Sync, G: Gate + Watch + Syn
     planned: Planned,
     options: &'a RunOptions,
     gate: &'a G,
-) -> Result<Vec<Replica>, JobError>
+) -> Result<Vec<Replica>, RunError>
     requires job { IsJob (job_of graph.now.graph planned.plan) }
     requires parts { AreParts (job_of graph.now.graph planned.plan) planned.parts.items }
     requires limits { are_in_limits options.now ≡ true }
     ensures done { IfOk result (λ rs. AreDone (job_of graph.now.graph planned.plan) rs.items) }
     ensures fault { IfErr result (IsFaultOf planned.plan.parts options.now) }
-    ensures first { IfErr result (λ e. e ≢ JobError.Memory →
+    ensures first { IfErr result (λ e. e ≢ RunError.Memory →
         IsFirstFault (job_of graph.now.graph planned.plan) options.now e) }
 {
     let ends = run_nodes(rt, graph, planned, options, gate)?;

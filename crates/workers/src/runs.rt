@@ -10,13 +10,11 @@ ghost use Rattle.ball_model.specs.Streams.{PutsFront, Rises, RisesByOne};
 ghost use Rattle.job.specs.Job.{settings_of};
 ghost use Rattle.edgelist.specs.Reading.{CountsOne};
 ghost use Rattle.graph.specs.Records.{ForPlain};
-ghost use Rattle.workers.specs.declared.ends.JobError.{JobError as NodesFault};
 ghost use Rattle.workers.specs.Job.{AreDone};
 ghost use Rattle.workers.specs.Options.{are_in_limits, run_job};
-ghost use Rattle.workers.specs.Run.{AddsFront, AddsReport, IsFaultIn, IsRunFault};
-ghost use Rattle.workers.specs.Run.{IsRunRefusal, RefusesEdges, WherePlain, job_fault};
+ghost use Rattle.workers.specs.Run.{AddsFront, AddsReport, IsFaultIn, IsOfEnds, IsRunFault};
+ghost use Rattle.workers.specs.Run.{IsRunRefusal, RefusesEdges, WherePlain};
 
-use crate::ends::JobError;
 use crate::gate::{Gate, UnwatchedGate};
 use crate::nodes::run_job;
 use crate::options::RunOptions;
@@ -101,29 +99,6 @@ impl From<AllocError> for RunError {
 
     fn from(_fault: AllocError) -> RunError {
         RunError::Memory
-    }
-}
-
-impl From<JobError> for RunError {
-    ghost use Rattle.workers.specs.Run.{job_fault};
-
-    ghost from_gives = { λ fault e. e ≡ job_fault fault };
-
-    fn from(fault: JobError) -> RunError {
-        match fault {
-            JobError::PartitionLost { part } => RunError::PartitionLost { part },
-            JobError::BookFull => RunError::BookFull,
-            JobError::Memory => RunError::Memory,
-            JobError::Starved {
-                node,
-                superstep,
-                source,
-            } => RunError::Starved {
-                node,
-                superstep,
-                source,
-            },
-        }
     }
 }
 
@@ -228,9 +203,9 @@ pub fn run<T: AllocGlobal + Threads + Wait + Sync, R: CountedRead, W: CountedWri
         W.failed_calls writer.new ≡ W.failed_calls writer.old }
     ensures limits { are_in_limits options.now ≡ false → result ≡ Err RunError.Options }
     ensures fault { IfErr result (IsFaultIn options.now) }
-    ensures first { (f : NodesFault) → f ≢ JobError.Memory → result ≡ Err (job_fault f) →
+    ensures first { IfErr result (λ e. IsOfEnds e →
         WherePlain options.now (R.remaining reader.old) counted.entry
-        (λ s input list. IsRunFault options.now s input list f) }
+        (λ s input list. IsRunFault options.now s input list e)) }
     ensures untouched { IfErr result (λ e. e ≢ RunError.Write →
         Keeps (W.contents writer.old) (W.contents writer.new)) }
     ensures begun { result ≡ Err RunError.Write →
@@ -275,9 +250,9 @@ pub fn run_watched<
         W.failed_calls writer.new ≡ W.failed_calls writer.old }
     ensures limits { are_in_limits options.now ≡ false → result ≡ Err RunError.Options }
     ensures fault { IfErr result (IsFaultIn options.now) }
-    ensures first { (f : NodesFault) → f ≢ JobError.Memory → result ≡ Err (job_fault f) →
+    ensures first { IfErr result (λ e. IsOfEnds e →
         WherePlain options.now (R.remaining reader.old) counted.entry
-        (λ s input list. IsRunFault options.now s input list f) }
+        (λ s input list. IsRunFault options.now s input list e)) }
     ensures untouched { IfErr result (λ e. e ≢ RunError.Write →
         Keeps (W.contents writer.old) (W.contents writer.new)) }
     ensures begun { result ≡ Err RunError.Write →

@@ -11,16 +11,16 @@ ghost use Rattle.hyperball.specs.Words.{IsFlag};
 use crate::cli::Server;
 use crate::cli::arguments::{Texts, option, progress, subcommand_of};
 use crate::cli::options::{PARTS_HELP, job_arguments, job_input_of, wants_progress};
+use crate::fault::Fault;
 use crate::progress::{Teller, TellingWatch};
-use crate::whole::{Form, Lack, WholeError, parts_of, read_whole};
+use crate::whole::{Form, parts_of, read_whole};
 use ball_model::{CountedRead, CountedWrite};
 use clap::builder::ValueParser;
 use clap::{ArgMatches, Command, value_parser};
 use job::JobInput;
 use std::alloc::{AllocError, AllocGlobal, Global};
 use std::hash::RandomState;
-use thiserror::Error;
-use world::replay::{ReplayError, ReplayOptions, replay_watched};
+use world::replay::{ReplayOptions, replay_watched};
 
 const ABOUT: &str = "Reads an edge list and a script on standard input and writes the answers";
 
@@ -132,53 +132,9 @@ pub fn replay_words_of(matches: &ArgMatches<'_>) -> ReplayWords
     }
 }
 
-/// Why words of a replay give no answers, or not all of them, in the order of the checks.
-#[derive(Clone, Copy, Debug, Error)]
-pub enum ReplayFault {
-    /// The input is not read whole.
-    #[error(transparent)]
-    Input(WholeError),
-    /// The input lacks a part.
-    #[error(transparent)]
-    Lacks(Lack),
-    /// The replay gives no answers, or not all of them.
-    #[error(transparent)]
-    Replay(ReplayError),
-}
-
-impl From<WholeError> for ReplayFault {
-    ghost use Rattle.hyperball.specs.declared.cli.replay.ReplayFault.TheVariants.{Input};
-
-    ghost from_gives = { λ fault e. e ≡ Input fault };
-
-    fn from(fault: WholeError) -> ReplayFault {
-        ReplayFault::Input(fault)
-    }
-}
-
-impl From<Lack> for ReplayFault {
-    ghost use Rattle.hyperball.specs.declared.cli.replay.ReplayFault.TheVariants.{Lacks};
-
-    ghost from_gives = { λ fault e. e ≡ Lacks fault };
-
-    fn from(fault: Lack) -> ReplayFault {
-        ReplayFault::Lacks(fault)
-    }
-}
-
-impl From<ReplayError> for ReplayFault {
-    ghost use Rattle.hyperball.specs.declared.cli.replay.ReplayFault.TheVariants.{Replay};
-
-    ghost from_gives = { λ fault e. e ≡ Replay fault };
-
-    fn from(fault: ReplayError) -> ReplayFault {
-        ReplayFault::Replay(fault)
-    }
-}
-
 /// A replay of these words: the answers to the script in the input. If there is a teller, it tells how it gets on.
 ///
-/// The faults come in the order of [`ReplayFault`]. `Input(Read)` is answered if a call of the reader failed and at no
+/// The faults come in the order of [`Fault`]. `Input(Read)` is answered if a call of the reader failed and at no
 /// other time, `Input(Size)` only if there are more than 2^26 bytes, and `Lacks` exactly if the input, read whole,
 /// lacks that part. After `Replay(Memory)` and `Replay(Write)` a beginning of the answers may be written; after every
 /// other fault nothing was written.
@@ -188,7 +144,7 @@ pub fn replay_by<H: AllocGlobal, T: Teller, R: CountedRead, W: CountedWrite>(
     words: &ReplayWords,
     reader: &mut R,
     writer: &mut W,
-) -> Result<(), ReplayFault>
+) -> Result<(), Fault>
     ensures done { OnOk result (DoesReplay words.now
         (reads_of R.remaining R.failed_calls R.sure_calls reader.old reader.new)
         (writes_of W.contents W.failed_calls writer.old writer.new)) }

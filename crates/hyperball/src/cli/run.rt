@@ -21,8 +21,9 @@ use crate::cli::arguments::{Argument, Texts, large, option, progress, subcommand
 use crate::cli::options::{USUAL, job_arguments, job_input_of, wants_large, wants_progress};
 use crate::cli::orders::{OrdersError, are_orders, orders_in};
 use crate::cli::{Server, WordsError};
+use crate::fault::Fault;
 use crate::progress::{Teller, TellingGate};
-use crate::whole::{Form, Lack, WholeError, parts_of, read_whole};
+use crate::whole::{Form, parts_of, read_whole};
 use ball_model::{CountedRead, CountedWrite, NodeId};
 use clap::builder::ValueParser;
 use clap::{ArgMatches, Command, value_parser};
@@ -33,8 +34,7 @@ use std::random::RandomSource;
 use std::sync::Wait;
 use std::thread::Threads;
 use std::time::Clock;
-use thiserror::Error;
-use workers::{Gate, RunError, RunOptions};
+use workers::{Gate, RunOptions};
 use world::bytes::Bytes;
 
 const RUN_ABOUT: &str = "Reads an edge list on standard input and writes its centralities as CSV";
@@ -305,64 +305,6 @@ pub fn run_words(alloc: Global, matches: &ArgMatches<'_>) -> Result<RunWords, Wo
     }
 }
 
-/// Why the job in an input gives no report, in the order of the checks.
-#[derive(Clone, Copy, Debug, Error)]
-pub enum JobFault {
-    /// The input is not read whole.
-    #[error(transparent)]
-    Input(WholeError),
-    /// The input lacks a part.
-    #[error(transparent)]
-    Lacks(Lack),
-    /// The run gives no report.
-    #[error(transparent)]
-    Run(RunError),
-}
-
-impl From<WholeError> for JobFault {
-    ghost use Rattle.hyperball.specs.declared.cli.run.JobFault.TheVariants.{Input};
-
-    ghost from_gives = { λ fault e. e ≡ Input fault };
-
-    fn from(fault: WholeError) -> JobFault {
-        JobFault::Input(fault)
-    }
-}
-
-impl From<Lack> for JobFault {
-    ghost use Rattle.hyperball.specs.declared.cli.run.JobFault.TheVariants.{Lacks};
-
-    ghost from_gives = { λ fault e. e ≡ Lacks fault };
-
-    fn from(fault: Lack) -> JobFault {
-        JobFault::Lacks(fault)
-    }
-}
-
-impl From<RunError> for JobFault {
-    ghost use Rattle.hyperball.specs.declared.cli.run.JobFault.TheVariants.{Run as Fault};
-
-    ghost from_gives = { λ fault e. e ≡ Fault fault };
-
-    fn from(fault: RunError) -> JobFault {
-        JobFault::Run(fault)
-    }
-}
-
-/// Why words of a run give no report, in the order of the checks.
-#[derive(Clone, Copy, Debug, Error)]
-pub enum RunFault {
-    /// There is no gate: memory was refused.
-    #[error("out of memory")]
-    Gate,
-    /// There are no random words to hash labels by.
-    #[error("the system gives no random words")]
-    Random,
-    /// The job in the input is not done.
-    #[error(transparent)]
-    Job(JobFault),
-}
-
 // A run over an input: what it runs on, what is asked of it, and who watches it.
 #[derive(Drop)]
 struct Job<'a, H, G> {
@@ -377,7 +319,7 @@ fn run_listed<
     R: CountedRead,
     W: CountedWrite,
     G: Gate + Watch + Sync,
->(job: &Job<'_, H, G>, state: RandomState, reader: &mut R, writer: &mut W) -> Result<(), JobFault>
+>(job: &Job<'_, H, G>, state: RandomState, reader: &mut R, writer: &mut W) -> Result<(), Fault>
     ensures done { OnOk result (DoesJob job.now.options.now true
         (reads_of R.remaining R.failed_calls R.sure_calls reader.old reader.new)
         (writes_of W.contents W.failed_calls writer.old writer.new)) }
@@ -405,19 +347,9 @@ fn run_listed<
     Ok(())
 }
 
-// Random words to hash labels by.
-fn random_state<H: RandomSource>(rt: &H) -> Result<RandomState, RunFault>
-    ensures { IfErr result (λ e. e ≡ RunFault.Random) }
-{
-    match RandomState::new(rt) {
-        Ok(state) => Ok(state),
-        Err(_) => Err(RunFault::Random),
-    }
-}
-
 /// A run of these words: its report is written. If there is a teller, it tells how the run gets on.
 ///
-/// The faults come in the order of [`RunFault`]. After `Gate` and `Random` nothing was read or written. With a list of
+/// The faults come in the order of [`Fault`]. After `Gate` and `Random` nothing was read or written. With a list of
 /// counted vertices the input is read whole ([`read_whole`]), and `Lacks` is answered exactly if no line is the mark;
 /// without one a failed read is answered exactly if a call of the reader failed (while failures can be counted).
 pub fn run_by<
@@ -425,12 +357,7 @@ pub fn run_by<
     T: Teller + Sync,
     R: CountedRead,
     W: CountedWrite,
->(
-    server: &Server<'_, H, T>,
-    words: RunWords,
-    reader: &mut R,
-    writer: &mut W,
-) -> Result<(), RunFault>
+>(server: &Server<'_, H, T>, words: RunWords, reader: &mut R, writer: &mut W) -> Result<(), Fault>
     ensures done { OnOk result (DoesJob words.options words.counted
         (reads_of R.remaining R.failed_calls R.sure_calls reader.old reader.new)
         (writes_of W.contents W.failed_calls writer.old writer.new)) }
@@ -444,9 +371,9 @@ pub fn run_by<
     let options = &words.options;
     let teller = server.teller.as_ref();
     let Ok(gate) = TellingGate::new(rt.alloc(), rt, teller, options.parts) else {
-        return Err(RunFault::Gate);
+        return Err(Fault::Gate);
     };
-    let state = random_state(rt)?;
+    let state = server.random_state()?;
     let answer = if words.counted {
         let job = Job {
             rt,
@@ -457,12 +384,9 @@ pub fn run_by<
     } else {
         match workers::run_watched(rt, state, reader, None, writer, options, &gate) {
             Ok(()) => Ok(()),
-            Err(fault) => Err(JobFault::Run(fault)),
+            Err(error) => Err(Fault::Run(error)),
         }
     };
     gate.after_run(answer.is_ok());
-    match answer {
-        Ok(()) => Ok(()),
-        Err(fault) => Err(RunFault::Job(fault)),
-    }
+    answer
 }

@@ -4,8 +4,8 @@ use Rattle.hyperball.specs.Ends.{FailsBy, FailsWish}
 use Rattle.hyperball.specs.Streams.{Reads, Writes, reads_of, writes_of}
 use Rattle.hyperball.specs.declared.cli.Wish.{Wish}
 use Rattle.hyperball.specs.declared.cli.Wish.TheVariants as wish
-use Rattle.hyperball.specs.declared.serve.Fault.{Fault}
-use Rattle.hyperball.specs.declared.serve.Fault.TheVariants as unserved
+use Rattle.hyperball.specs.declared.fault.Fault.{Fault}
+use Rattle.hyperball.specs.declared.fault.Fault.TheVariants as fault
 use Rattle.hyperball.proofs.TellingLemmas.{tells_none}
 use Rattle.hyperball.proofs.WholeLemmas.{none_read}
 use Rattle.hyperball.proofs.WishLemmas.{accepted_mistake, accepted_undone, says_done, says_reads, wish_leaves}
@@ -13,26 +13,15 @@ use Rattle.hyperball.proofs.serve.serve.Goals as goal
 
 -- a wish that fails with some fault fails
 fails_wish : (x : Wish) (r : Reads) (w : Writes) (f : Fault) → FailsBy x r w f → FailsWish x r w
-fails_wish (wish.Run v) r w unserved.Random none = inl none
-fails_wish (wish.Run v) r w (unserved.Run f) fails = inr (record { fault = f; due = fails })
-fails_wish (wish.Run v) r w (unserved.Replay f) fails = absurd fails
-fails_wish (wish.Run v) r w (unserved.Node f) fails = absurd fails
-fails_wish (wish.Run v) r w (unserved.Gather f) fails = absurd fails
-fails_wish (wish.Replay v) r w unserved.Random none = inl none
-fails_wish (wish.Replay v) r w (unserved.Run f) fails = absurd fails
-fails_wish (wish.Replay v) r w (unserved.Replay f) fails = inr (record { fault = f; due = fails })
-fails_wish (wish.Replay v) r w (unserved.Node f) fails = absurd fails
-fails_wish (wish.Replay v) r w (unserved.Gather f) fails = absurd fails
-fails_wish (wish.Node v) r w unserved.Random none = inl none
-fails_wish (wish.Node v) r w (unserved.Run f) fails = absurd fails
-fails_wish (wish.Node v) r w (unserved.Replay f) fails = absurd fails
-fails_wish (wish.Node v) r w (unserved.Node f) fails = inr (record { fault = f; due = fails })
-fails_wish (wish.Node v) r w (unserved.Gather f) fails = absurd fails
-fails_wish (wish.Gather v) r w unserved.Random none = inl none
-fails_wish (wish.Gather v) r w (unserved.Run f) fails = absurd fails
-fails_wish (wish.Gather v) r w (unserved.Replay f) fails = absurd fails
-fails_wish (wish.Gather v) r w (unserved.Node f) fails = absurd fails
-fails_wish (wish.Gather v) r w (unserved.Gather f) fails = inr (record { fault = f; due = fails })
+fails_wish (wish.Run v) r w f fails = inr (record { fault = f; due = fails })
+fails_wish (wish.Replay v) r w fault.Random none = inl none
+fails_wish (wish.Replay v) r w f fails = inr (record { fault = f; due = fails })
+fails_wish (wish.Node v) r w fault.Random none = inl none
+fails_wish (wish.Node v) r w (fault.Node e) fails = inr (record { fault = e; due = fails })
+fails_wish (wish.Node v) r w f fails = absurd fails
+fails_wish (wish.Gather v) r w fault.Random none = inl none
+fails_wish (wish.Gather v) r w (fault.Gather e) fails = inr (record { fault = e; due = fails })
+fails_wish (wish.Gather v) r w f fails = absurd fails
 
 pub returns-in-Ok-answer-clause-asked : goal.returns-in-Ok-answer-clause-asked
 returns-in-Ok-answer-clause-asked g c = λ a is.

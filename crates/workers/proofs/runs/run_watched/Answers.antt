@@ -9,12 +9,11 @@ use Rattle.graph.specs.Planning.{signed}
 use Rattle.job.specs.declared.job.JobOptions.{JobOptions}
 use Rattle.job.specs.declared.job.NetworkError.{NetworkError}
 use Rattle.edgelist.specs.declared.limits.EdgeError.TheVariants as edge
-use Rattle.workers.specs.declared.ends.JobError.{JobError}
 use Rattle.workers.specs.declared.runs.RunError.{RunError}
 use Rattle.workers.specs.declared.runs.RunError.TheVariants as fault
 use Rattle.workers.specs.Job.{IsFaultOf}
 use Rattle.workers.specs.Options.{run_job}
-use Rattle.workers.specs.Run.{IsRunRefusal, WherePlain, job_fault, network_fault}
+use Rattle.workers.specs.Run.{IsRunRefusal, WherePlain, network_fault}
 use Rattle.workers.proofs.PathLemmas.{ok_is_no_err}
 use Rattle.workers.proofs.RunLemmas.{EndsUnwritten, IsRead, TellsNone, edges_back, edges_told, ends_unwritten, listed_edges, none_done, none_held, none_planned, plan_job, planned, read_by, report_planned, reported, unread_by, unread_edges, unwritten, unwritten_edges, where_always, wrote, wrote_front}
 use Rattle.workers.proofs.runs.run_watched.Given.{Over}
@@ -72,13 +71,14 @@ pub returns-in_err-replicas : goal.returns-in_err-replicas
 returns-in_err-replicas g c =
     let o = c.args.options.now in
     let at = goal.at.returns-in_err-replicas g c in
-    let e : JobError = c.in_err-replicas.field-0.0 in
+    let e : RunError = c.in_err-replicas.field-0.0 in
     let parts = ap (λ (plan : PlanValue). plan.parts) c.in_ok-planned.ensures.plan ∙ (c.in_ok-bare.ensures.parts ∙ ap (λ (a : JobOptions). a.parts) c.job-job.ensures) in
     let p = err_from_is_err_and c.from_residual-in_err-replicas.result c.from_residual-in_err-replicas.ensures.1 in
+    let due = subst (λ (n : ℕ). IsFaultOf n o e) parts c.in_err-replicas.ensures.fault in
     let none =
     none_done o (g.R.Read.remaining c.args.reader.now) c.args.counted c.in_ok-read.read.graph c.in_ok-planned.planned.plan e (network_read g at.In_ok-read) (rw c.in_ok-planned.ensures.plan (plan_made g at.In_ok-bare))
-    (subst (λ (n : ℕ). IsFaultOf n o e) parts c.in_err-replicas.ensures.fault) c.in_err-replicas.ensures.first in
-    rw (p.1, p.2) (ends_over g at.In_ok-read (job_fault e) none (unread_edges e edge.Read))
+    due c.in_err-replicas.ensures.first in
+    rw (p.1, p.2) (ends_over g at.In_ok-read e none (unread_edges o e edge.Read due))
 
 pub returns-in_err-text : goal.returns-in_err-text
 returns-in_err-text g c =
