@@ -1,9 +1,9 @@
 pub mod NameLemmas
 pub mod OptionLemmas
-pub mod WishLemmas
+pub mod SubcommandLemmas
 pub mod CommandLemmas
 pub mod WholeLemmas
 pub mod ReplayLemmas
 pub mod OrderLemmas
 pub mod RefusalLemmas
-pub mod TellingLemmas
+pub mod ProgressLemmas

@@ -8,10 +8,10 @@ use Rattle.clap.proofs.WalkLemmas.{first_value-rows, one_text-rows}
 use Rattle.ball_model.specs.declared.plan.Estimate.{Estimate}
 use Rattle.graph.specs.declared.delimiter.Delimiter.{Delimiter}
 use Rattle.job.specs.declared.input.JobInput.{JobInput}
-use Rattle.hyperball.specs.declared.cli.gather.GatherWords.{GatherWords}
-use Rattle.hyperball.specs.declared.cli.one_node.NodeWords.{NodeWords}
-use Rattle.hyperball.specs.declared.cli.replay.ReplayWords.{ReplayWords}
-use Rattle.hyperball.specs.declared.cli.run.RunWords.{RunWords}
+use Rattle.hyperball.specs.declared.cli.gather.GatherArgs.{GatherArgs}
+use Rattle.hyperball.specs.declared.cli.one_node.NodeArgs.{NodeArgs}
+use Rattle.hyperball.specs.declared.cli.replay.ReplayArgs.{ReplayArgs}
+use Rattle.hyperball.specs.declared.cli.run.RunArgs.{RunArgs}
 use Rattle.ball_model.specs.declared.names.NodeId.{NodeId}
 use Rattle.hyperball.specs.Orders.{AreOrders, SpellsOrders}
 use Rattle.hyperball.specs.Words.{IsFlag, IsListed, IsNamedOr, IsNumber, IsNumberOr, SpellLists, flag_text}
@@ -47,26 +47,26 @@ pub flag_is : (f : Found) (id : Text) (given b : Bool) → (one_text f id ≡ No
 flag_is f id given b none value other is =
     flag_of (one_text f id) given b none value other (subst (λ o. MatchOption o (b ≡ false) (λ t. t ≡ flag_text b)) (sym (one_text-rows f id)) is)
 
-pub same_words : (log2m seed parts limit : ℕ) (e : Estimate) (d : Delimiter) (large : Bool) (replicas entries keep patience threads : ℕ) (counted progress : Bool) (w : RunWords) → log2m ≡ w.options.log2m → seed ≡ w.options.seed → parts ≡ w.options.parts → limit ≡ w.options.limit →
+pub same_args : (log2m seed parts limit : ℕ) (e : Estimate) (d : Delimiter) (large : Bool) (replicas entries keep patience threads : ℕ) (counted progress : Bool) (w : RunArgs) → log2m ≡ w.options.log2m → seed ≡ w.options.seed → parts ≡ w.options.parts → limit ≡ w.options.limit →
     e ≡ w.options.estimate → d ≡ w.options.delimiter → large ≡ w.options.large → replicas ≡ w.options.replicas → entries ≡ w.options.entries → keep ≡ w.options.keep → patience ≡ w.options.patience → threads ≡ w.options.threads → counted ≡ w.counted → progress ≡ w.progress →
-    ◌≡◌ {A = RunWords} (record { options = record { log2m = log2m; seed = seed; parts = parts; limit = limit; estimate = e; delimiter = d; large = large; replicas = replicas; entries = entries; keep = keep; patience = patience; threads = threads; lose = w.options.lose; restart = w.options.restart }; counted = counted; progress = progress }) w
-same_words log2m seed parts limit e d large replicas entries keep patience threads counted progress w a b p l k g z r n m q t h s = λ i. record { options = record { log2m = a i; seed = b i; parts = p i; limit = l i; estimate = k i; delimiter = g i; large = z i; replicas = r i; entries = n i; keep = m i; patience = q i; threads = t i; lose = w.options.lose; restart = w.options.restart }; counted = h i; progress = s i }
+    ◌≡◌ {A = RunArgs} (record { options = record { log2m = log2m; seed = seed; parts = parts; limit = limit; estimate = e; delimiter = d; large = large; replicas = replicas; entries = entries; keep = keep; patience = patience; threads = threads; lose = w.options.lose; restart = w.options.restart }; counted = counted; progress = progress }) w
+same_args log2m seed parts limit e d large replicas entries keep patience threads counted progress w a b p l k g z r n m q t h s = λ i. record { options = record { log2m = a i; seed = b i; parts = p i; limit = l i; estimate = k i; delimiter = g i; large = z i; replicas = r i; entries = n i; keep = m i; patience = q i; threads = t i; lose = w.options.lose; restart = w.options.restart }; counted = h i; progress = s i }
 
-pub same_replay_words : (log2m seed parts limit replicas : ℕ) (e : Estimate) (d : Delimiter) (counted progress : Bool) (w : ReplayWords) → log2m ≡ w.options.log2m → seed ≡ w.options.seed → parts ≡ w.options.parts → limit ≡ w.options.limit → replicas ≡ w.options.replicas →
+pub same_replay_args : (log2m seed parts limit replicas : ℕ) (e : Estimate) (d : Delimiter) (counted progress : Bool) (w : ReplayArgs) → log2m ≡ w.options.log2m → seed ≡ w.options.seed → parts ≡ w.options.parts → limit ≡ w.options.limit → replicas ≡ w.options.replicas →
     e ≡ w.options.estimate → d ≡ w.options.delimiter → counted ≡ w.counted → progress ≡ w.progress →
-    ◌≡◌ {A = ReplayWords} (record { options = record { log2m = log2m; seed = seed; parts = parts; limit = limit; replicas = replicas; estimate = e; delimiter = d }; counted = counted; progress = progress }) w
-same_replay_words log2m seed parts limit replicas e d counted progress w a b p l r k g h t = λ i. record { options = record { log2m = a i; seed = b i; parts = p i; limit = l i; replicas = r i; estimate = k i; delimiter = g i }; counted = h i; progress = t i }
+    ◌≡◌ {A = ReplayArgs} (record { options = record { log2m = log2m; seed = seed; parts = parts; limit = limit; replicas = replicas; estimate = e; delimiter = d }; counted = counted; progress = progress }) w
+same_replay_args log2m seed parts limit replicas e d counted progress w a b p l r k g h t = λ i. record { options = record { log2m = a i; seed = b i; parts = p i; limit = l i; replicas = r i; estimate = k i; delimiter = g i }; counted = h i; progress = t i }
 
 pub same_job : (log2m seed parts limit : ℕ) (e : Estimate) (d : Delimiter) (large : Bool) (threads : ℕ) (counted : Bool) (o : JobInput) → log2m ≡ o.options.log2m → seed ≡ o.options.seed → parts ≡ o.options.parts → limit ≡ o.options.limit →
     e ≡ o.options.estimate → d ≡ o.options.delimiter → large ≡ o.options.large → threads ≡ o.options.threads → counted ≡ o.counted →
     ◌≡◌ {A = JobInput} (record { options = record { log2m = log2m; seed = seed; parts = parts; limit = limit; estimate = e; delimiter = d; large = large; threads = threads }; counted = counted }) o
 same_job log2m seed parts limit e d large threads counted o a b p l k g z t h = λ i. record { options = record { log2m = a i; seed = b i; parts = p i; limit = l i; estimate = k i; delimiter = g i; large = z i; threads = t i }; counted = h i }
 
-pub same_node_words : (o : JobInput) (part : ℕ) (progress : Bool) (w : NodeWords) → o ≡ w.job → part ≡ w.part → progress ≡ w.progress → ◌≡◌ {A = NodeWords} (record { job = o; part = part; progress = progress }) w
-same_node_words o part progress w a p t = λ i. record { job = a i; part = p i; progress = t i }
+pub same_node_args : (o : JobInput) (part : ℕ) (progress : Bool) (w : NodeArgs) → o ≡ w.job → part ≡ w.part → progress ≡ w.progress → ◌≡◌ {A = NodeArgs} (record { job = o; part = part; progress = progress }) w
+same_node_args o part progress w a p t = λ i. record { job = a i; part = p i; progress = t i }
 
-pub same_gather_words : (o : JobInput) (progress : Bool) (w : GatherWords) → o ≡ w.job → progress ≡ w.progress → ◌≡◌ {A = GatherWords} (record { job = o; progress = progress }) w
-same_gather_words o progress w a t = λ i. record { job = a i; progress = t i }
+pub same_gather_args : (o : JobInput) (progress : Bool) (w : GatherArgs) → o ≡ w.job → progress ≡ w.progress → ◌≡◌ {A = GatherArgs} (record { job = o; progress = progress }) w
+same_gather_args o progress w a t = λ i. record { job = a i; progress = t i }
 
 -- a text that was read is given
 pub given_is : (f : Found) (id : Text) (text : Option Text) → text ≡ first_value f id → is_some text ≡ true → is_some (first_of id (rows_of f)) ≡ true

@@ -10,7 +10,7 @@ use Rattle.hyperball.specs.Replaying.{Answers, BeginsAnswers, BeginsToServe, Doe
 use Rattle.hyperball.specs.Streams.{Reads, Writes}
 use Rattle.ball_model.specs.Sections.{sections_of}
 use Rattle.hyperball.specs.Whole.{Parts, ReadsWhole, at_mark, parts_in}
-use Rattle.hyperball.specs.declared.cli.replay.ReplayWords.{ReplayWords}
+use Rattle.hyperball.specs.declared.cli.replay.ReplayArgs.{ReplayArgs}
 use Rattle.hyperball.specs.declared.fault.Fault.TheVariants as unserved
 use Rattle.hyperball.specs.declared.whole.Lack.{Lack}
 use Rattle.hyperball.specs.declared.whole.Lack.TheVariants as lack
@@ -31,7 +31,7 @@ same_input : (f e : WholeError) → unserved.Input f ≡ unserved.Input e → f 
 same_input f e is = cc
 
 -- the input was not read whole
-pub unread : (v : ReplayWords) (r : Reads) (w : Writes) (f : WholeError) → ReadsWhole r (λ e. f ≡ e) → Keeps w.contents.old w.contents.new → FailsReplay v r w (unserved.Input f)
+pub unread : (v : ReplayArgs) (r : Reads) (w : Writes) (f : WholeError) → ReadsWhole r (λ e. f ≡ e) → Keeps w.contents.old w.contents.new → FailsReplay v r w (unserved.Input f)
 unread v r w f whole keeps = record {
   due = always r.bytes.old (λ input. tt);
   left = keeps;
@@ -42,7 +42,7 @@ unread v r w f whole keeps = record {
 }
 
 -- it lacks a part
-pub lacking : (v : ReplayWords) (r : Reads) (w : Writes) (bytes : List ℕ) (missing : Lack) → IsRead r bytes → parts_in v.counted true bytes ≡ Err missing → Keeps w.contents.old w.contents.new →
+pub lacking : (v : ReplayArgs) (r : Reads) (w : Writes) (bytes : List ℕ) (missing : Lack) → IsRead r bytes → parts_in v.counted true bytes ≡ Err missing → Keeps w.contents.old w.contents.new →
     FailsReplay v r w (unserved.Lacks missing)
 lacking v r w bytes missing read found keeps = record {
   due = of_input r.bytes.old bytes (λ input. parts_in v.counted true input ≡ Err missing) read.whole found;
@@ -55,7 +55,7 @@ lacking v r w bytes missing read found keeps = record {
 }
 
 -- what is left of the answers
-left_of : (v : ReplayWords) (r : Reads) (w : Writes) (bytes : List ℕ) (e : ReplayError) → IsRead r bytes → FailsOver v bytes w e → BeginsToServe v r w
+left_of : (v : ReplayArgs) (r : Reads) (w : Writes) (bytes : List ℕ) (e : ReplayError) → IsRead r bytes → FailsOver v bytes w e → BeginsToServe v r w
 left_of v r w bytes e read over = elim (which e) [
   | inl memory ↦ inr (of_input r.bytes.old bytes (λ input. BeginsAnswers v input w.contents.old w.contents.new) read.whole (record {
     edges = over.edges;
@@ -79,7 +79,7 @@ left_of v r w bytes e read over = elim (which e) [
 ]
 
 -- the replay over it fails
-pub failing : (v : ReplayWords) (r : Reads) (w : Writes) (bytes : List ℕ) (e : ReplayError) → IsRead r bytes → FailsOver v bytes w e → FailsReplay v r w (unserved.Replay e)
+pub failing : (v : ReplayArgs) (r : Reads) (w : Writes) (bytes : List ℕ) (e : ReplayError) → IsRead r bytes → FailsOver v bytes w e → FailsReplay v r w (unserved.Replay e)
 failing v r w bytes e read over = record {
   due = of_input r.bytes.old bytes (λ input. FailsOver v input w e) read.whole over;
   left = (over.fails.untouched, over.fails.write);
@@ -91,7 +91,7 @@ failing v r w bytes e read over = record {
 }
 
 -- the answers to it were appended
-pub answered : (v : ReplayWords) (r : Reads) (w : Writes) (bytes : List ℕ) → IsRead r bytes → Answers v bytes w.contents.old w.contents.new → w.failed.new ≡ w.failed.old → DoesReplay v r w
+pub answered : (v : ReplayArgs) (r : Reads) (w : Writes) (bytes : List ℕ) → IsRead r bytes → Answers v bytes w.contents.old w.contents.new → w.failed.new ≡ w.failed.old → DoesReplay v r w
 answered v r w bytes read done written = record {
   answered = of_input r.bytes.old bytes (λ input. Answers v input w.contents.old w.contents.new) read.whole done;
   unfailed = read.unfailed;
@@ -99,7 +99,7 @@ answered v r w bytes read done written = record {
 }
 
 -- the parts of an input that has this script
-pub has_parts : (v : ReplayWords) (input edges : List ℕ) (list script : Option (List ℕ)) (x : List ℕ) → parts_in v.counted true input ≡ Ok (record { edges = edges; list = list; script = script }) → script ≡ Some x → HasParts v input edges list x
+pub has_parts : (v : ReplayArgs) (input edges : List ℕ) (list script : Option (List ℕ)) (x : List ℕ) → parts_in v.counted true input ≡ Ok (record { edges = edges; list = list; script = script }) → script ≡ Some x → HasParts v input edges list x
 has_parts v input edges list script x found is = subst (λ (s : Option (List ℕ)). parts_in v.counted true input ≡ Ok (record { edges = edges; list = list; script = s })) is found
 
 -- a script that is told is there

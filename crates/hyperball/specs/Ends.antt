@@ -11,17 +11,17 @@ use Rattle.hyperball.specs.Refusals.{DoesJob, FailsJob}
 use Rattle.hyperball.specs.Replaying.{BeginsSome, DoesReplay, FailsReplay}
 use Rattle.hyperball.specs.Streams.{AppendsSome, KeptOrFailed, Reads, Untouched, Unread, Unwritten, Writes}
 use Rattle.hyperball.specs.Whole.{ReadsFew}
-use Rattle.hyperball.specs.Wishes.{ReadsAll, Says, SaysOrders}
+use Rattle.hyperball.specs.Subcommands.{ReadsAll, Says, SaysOrders}
 use Rattle.hyperball.specs.Words.{AreMistakes, HasFaults, HasNoLists, HasOrders, IsMistake}
-use Rattle.hyperball.specs.declared.cli.Wish.{Wish}
-use Rattle.hyperball.specs.declared.cli.Wish.TheVariants as wish
+use Rattle.hyperball.specs.declared.cli.Subcommand.{Subcommand}
+use Rattle.hyperball.specs.declared.cli.Subcommand.TheVariants as subcommand
 use Rattle.hyperball.specs.declared.cli.WordsError.{WordsError}
 use Rattle.hyperball.specs.declared.cli.WordsError.TheVariants as words_error
-use Rattle.hyperball.specs.declared.cli.gather.GatherWords.{GatherWords}
-use Rattle.hyperball.specs.declared.cli.one_node.NodeWords.{NodeWords}
+use Rattle.hyperball.specs.declared.cli.gather.GatherArgs.{GatherArgs}
+use Rattle.hyperball.specs.declared.cli.one_node.NodeArgs.{NodeArgs}
 use Rattle.hyperball.specs.declared.cli.orders.OrdersError.{OrdersError}
 use Rattle.hyperball.specs.declared.cli.orders.OrdersError.TheVariants as orders_error
-use Rattle.hyperball.specs.declared.cli.run.RunWords.{RunWords}
+use Rattle.hyperball.specs.declared.cli.run.RunArgs.{RunArgs}
 use Rattle.hyperball.specs.declared.fault.Fault.{Fault}
 use Rattle.hyperball.specs.declared.fault.Fault.TheVariants as fault
 use Rattle.node.specs.Gathering.{GathersJob}
@@ -38,29 +38,29 @@ use Rattle.node.specs.declared.error.ServeNodeError.TheVariants as node
 
 -- ---- done
 -- the node has answered its commands, and no call failed
-pub record DoesNode (v : NodeWords) (r : Reads) (w : Writes) : Type 0 where
+pub record DoesNode (v : NodeArgs) (r : Reads) (w : Writes) : Type 0 where
   pub served : ServesNode (settings_of v.job.options) v.job.counted v.part
       r.bytes.old r.bytes.new w.contents.old w.contents.new
   pub read : r.failed.new ≡ r.failed.old
   pub written : w.failed.new ≡ w.failed.old
 
 -- the report of the checkpoints was appended, and no call failed
-pub record DoesGather (v : GatherWords) (r : Reads) (w : Writes) : Type 0 where
+pub record DoesGather (v : GatherArgs) (r : Reads) (w : Writes) : Type 0 where
   pub gathered : GathersJob (settings_of v.job.options) v.job.counted
       r.bytes.old r.bytes.new w.contents.old w.contents.new
   pub read : r.failed.new ≡ r.failed.old
   pub written : w.failed.new ≡ w.failed.old
 
 -- what was asked for is done
-abbrev pub Does : Wish → Reads → Writes → Type 0
-Does (wish.Run v) r w = DoesJob v.options v.counted r w
-Does (wish.Replay v) r w = DoesReplay v r w
-Does (wish.Node v) r w = DoesNode v r w
-Does (wish.Gather v) r w = DoesGather v r w
+abbrev pub Does : Subcommand → Reads → Writes → Type 0
+Does (subcommand.Run v) r w = DoesJob v.options v.counted r w
+Does (subcommand.Replay v) r w = DoesReplay v r w
+Does (subcommand.Node v) r w = DoesNode v r w
+Does (subcommand.Gather v) r w = DoesGather v r w
 
 -- ---- failed
 -- a run ends with this fault: before anything is read, or in its job
-abbrev pub FailsRun : RunWords → Reads → Writes → Fault → Type 0
+abbrev pub FailsRun : RunArgs → Reads → Writes → Fault → Type 0
 FailsRun v r w fault.Gate = Untouched r w
 FailsRun v r w fault.Random = Untouched r w
 FailsRun v r w (fault.Input e) = FailsJob v.options v.counted r w (fault.Input e)
@@ -69,7 +69,7 @@ FailsRun v r w (fault.Run e) = FailsJob v.options v.counted r w (fault.Run e)
 FailsRun v r w f = ⊥
 
 -- a node ends with this fault: which it is of the job or of its requests, what was answered before, and which calls failed
-pub record FailsNode (v : NodeWords) (r : Reads) (w : Writes) (f : ServeNodeError) : Type 0 where
+pub record FailsNode (v : NodeArgs) (r : Reads) (w : Writes) (f : ServeNodeError) : Type 0 where
   pub jobless : IsNoNode f →
       HasNoNode (settings_of v.job.options) v.job.counted v.part r.bytes.old r.bytes.new f
       × Keeps w.contents.old w.contents.new
@@ -85,7 +85,7 @@ pub record FailsNode (v : NodeWords) (r : Reads) (w : Writes) (f : ServeNodeErro
   pub written : f ≢ node.Serve answer.Write → w.failed.new ≡ w.failed.old
 
 -- a gathering ends with this fault: which it is, what was written before, and which calls failed
-pub record FailsGather (v : GatherWords) (r : Reads) (w : Writes) (f : GatherError) : Type 0 where
+pub record FailsGather (v : GatherArgs) (r : Reads) (w : Writes) (f : GatherError) : Type 0 where
   pub refused : HasNoReport (settings_of v.job.options) v.job.counted r.bytes.old r.bytes.new f
   pub kept : IsUnwritten f → Keeps w.contents.old w.contents.new
   pub front : WritesFrontOfJob (settings_of v.job.options) v.job.counted
@@ -96,45 +96,45 @@ pub record FailsGather (v : GatherWords) (r : Reads) (w : Writes) (f : GatherErr
   pub write : f ≡ gather.Write → RisesByOne w.failed.old w.failed.new
   pub written : f ≢ gather.Write → w.failed.new ≡ w.failed.old
 
--- a wish fails with this: there are no random words, and nothing was read or written; or the fault is its command's own
-abbrev pub FailsBy : Wish → Reads → Writes → Fault → Type 0
-FailsBy (wish.Run v) r w f = FailsRun v r w f
-FailsBy (wish.Replay v) r w fault.Random = Untouched r w
-FailsBy (wish.Replay v) r w f = FailsReplay v r w f
-FailsBy (wish.Node v) r w fault.Random = Untouched r w
-FailsBy (wish.Node v) r w (fault.Node f) = FailsNode v r w f
-FailsBy (wish.Node v) r w f = ⊥
-FailsBy (wish.Gather v) r w fault.Random = Untouched r w
-FailsBy (wish.Gather v) r w (fault.Gather f) = FailsGather v r w f
-FailsBy (wish.Gather v) r w f = ⊥
+-- a subcommand fails with this fault: there are no random words, and nothing was read or written; or it is its own
+abbrev pub FailsBy : Subcommand → Reads → Writes → Fault → Type 0
+FailsBy (subcommand.Run v) r w f = FailsRun v r w f
+FailsBy (subcommand.Replay v) r w fault.Random = Untouched r w
+FailsBy (subcommand.Replay v) r w f = FailsReplay v r w f
+FailsBy (subcommand.Node v) r w fault.Random = Untouched r w
+FailsBy (subcommand.Node v) r w (fault.Node f) = FailsNode v r w f
+FailsBy (subcommand.Node v) r w f = ⊥
+FailsBy (subcommand.Gather v) r w fault.Random = Untouched r w
+FailsBy (subcommand.Gather v) r w (fault.Gather f) = FailsGather v r w f
+FailsBy (subcommand.Gather v) r w f = ⊥
 
 -- it ends with some fault
 pub record FailsSo {F : Type 0} (Fails : F → Type 0) : Type 0 where
   pub fault : F
   pub due : Fails fault
 
--- a wish fails for a reason of its own
-abbrev pub FailsAlone : Wish → Reads → Writes → Type 0
-FailsAlone (wish.Run v) r w = FailsSo (FailsRun v r w)
-FailsAlone (wish.Replay v) r w = FailsSo (FailsReplay v r w)
-FailsAlone (wish.Node v) r w = FailsSo (FailsNode v r w)
-FailsAlone (wish.Gather v) r w = FailsSo (FailsGather v r w)
+-- a subcommand fails for a reason of its own
+abbrev pub FailsAlone : Subcommand → Reads → Writes → Type 0
+FailsAlone (subcommand.Run v) r w = FailsSo (FailsRun v r w)
+FailsAlone (subcommand.Replay v) r w = FailsSo (FailsReplay v r w)
+FailsAlone (subcommand.Node v) r w = FailsSo (FailsNode v r w)
+FailsAlone (subcommand.Gather v) r w = FailsSo (FailsGather v r w)
 
--- a wish fails: there are no random words, or it has a reason of its own
-abbrev pub FailsWish : Wish → Reads → Writes → Type 0
-FailsWish x r w = Untouched r w ⊎ FailsAlone x r w
+-- a subcommand fails: there are no random words, or it has a reason of its own
+abbrev pub FailsSubcommand : Subcommand → Reads → Writes → Type 0
+FailsSubcommand x r w = Untouched r w ⊎ FailsAlone x r w
 
 -- what these words ask for fails, with the lists of orders in them
-pub record Fails (words : List Text) (asked : Wish) (r : Reads) (w : Writes) : Type 0 where
-  pub found : Wish
+pub record Fails (words : List Text) (asked : Subcommand) (r : Reads) (w : Writes) : Type 0 where
+  pub found : Subcommand
   pub says : Says asked found
   pub orders : SaysOrders words found
-  pub fails : FailsWish found r w
+  pub fails : FailsSubcommand found r w
 
 -- ---- ends
 -- words that ask for this end with this status: 0 if it is done, and 1 from a fault, or before it begins, and then
 -- nothing was read or written
-pub record Ends (words : List Text) (asked : Wish) (status : ℕ) (r : Reads) (w : Writes) :
+pub record Ends (words : List Text) (asked : Subcommand) (status : ℕ) (r : Reads) (w : Writes) :
     Type 0 where
   pub done : status ≡ 0 → Does asked r w
   pub fault : status ≡ 1 → Untouched r w ⊎ Fails words asked r w

@@ -8,6 +8,6 @@ pub mod Orders
 pub mod Refusals
 pub mod Nodes
 pub mod Progress
-pub mod Wishes
+pub mod Subcommands
 pub mod Ends
 pub mod Hints

@@ -8,50 +8,50 @@ use Rattle.ball_model.specs.WorldText.{node_word}
 use Rattle.ball_model.specs.declared.plan.PlanError.{PlanError}
 use Rattle.ball_model.specs.declared.plan.PlanError.TheVariants as fault
 use Rattle.node.specs.Stream.{HasNoEnd}
-use Rattle.hyperball.specs.declared.lines.News.{News}
-use Rattle.hyperball.specs.declared.lines.News.TheVariants as line
+use Rattle.hyperball.specs.declared.lines.ProgressLine.{ProgressLine}
+use Rattle.hyperball.specs.declared.lines.ProgressLine.TheVariants as line
 
 -- what a line of progress says
-abbrev pub news_text : News → List ℕ
-news_text (line.NoLog2m log2m) =
+abbrev pub progress_text : ProgressLine → List ℕ
+progress_text (line.NoLog2m log2m) =
     codes "no plan has log2m " ++ decimal log2m ++ codes
     " (4 to 10 are allowed): the job will be refused once the edge list is read"
-news_text (line.NoParts parts) =
+progress_text (line.NoParts parts) =
     codes "no plan has parts " ++ decimal parts ++ codes
     " (1 to 64 are allowed): the job will be refused once the edge list is read"
-news_text (line.NoLimit limit) =
+progress_text (line.NoLimit limit) =
     codes "no plan has limit " ++ decimal limit ++ codes
     " (1 to 4096 are allowed): the job will be refused once the edge list is read"
-news_text (line.Reading records) = decimal records ++ codes " records are read so far"
-news_text (line.Read records vertices) =
+progress_text (line.Reading records) = decimal records ++ codes " records are read so far"
+progress_text (line.Read records vertices) =
     decimal records ++ codes " records and " ++ decimal vertices ++ codes " vertices are read"
-news_text line.Start = codes "the supersteps begin"
-news_text (line.Superstep superstep changed vertices) =
+progress_text line.Start = codes "the supersteps begin"
+progress_text (line.Superstep superstep changed vertices) =
     codes "superstep " ++ decimal superstep ++ codes ", " ++ decimal changed ++ codes " of "
     ++ decimal vertices ++ codes " vertices changed"
-news_text (line.Close node superstep changed vertices) =
+progress_text (line.Close node superstep changed vertices) =
     codes "node " ++ node_word node ++ codes " at superstep " ++ decimal superstep
     ++ codes ", " ++ decimal changed ++ codes " of its " ++ decimal vertices
     ++ codes " vertices changed"
-news_text line.Report = codes "the report is written"
-news_text line.Answers = codes "the answers are written"
-news_text line.Commands = codes "the commands are answered"
+progress_text line.Report = codes "the report is written"
+progress_text line.Answers = codes "the answers are written"
+progress_text line.Commands = codes "the commands are answered"
 
 -- how a line of progress begins, as a fault does
 abbrev pub mark_of_program : List ℕ
 mark_of_program = codes "hyperball: "
 
 -- a line of progress
-abbrev pub news_line : News → List ℕ
-news_line said = mark_of_program ++ news_text said
+abbrev pub progress_line : ProgressLine → List ℕ
+progress_line said = mark_of_program ++ progress_text said
 
 -- with the LF that ends it
-abbrev pub line_of : News → List ℕ
-line_of said = news_line said ++ 10 ∷ []
+abbrev pub line_of : ProgressLine → List ℕ
+line_of said = progress_line said ++ 10 ∷ []
 
 -- lines of progress are appended to what was there, and nothing else
 pub record TellsProgress (old new : Option (List ℕ)) : Type 0 where
-  pub lines : List News
+  pub lines : List ProgressLine
   pub appended : Appends old new (flat_map line_of lines)
 
 -- as it was asked for: if it was not, what was there is kept, and else lines of progress alone are appended
@@ -77,16 +77,16 @@ abbrev pub AsksBy : ℕ → ℕ → ℕ → Numbers → Type 0
 AsksBy log2m parts limit n = (n.log2m ≡ log2m) × ((n.parts ≡ parts) × (n.limit ≡ limit))
 
 -- the line tells the one of them that this fault is about
-abbrev pub TellsOf : ℕ → ℕ → ℕ → PlanError → News → Type 0
-TellsOf log2m parts limit fault.Log2m news = news ≡ line.NoLog2m log2m
-TellsOf log2m parts limit fault.Parts news = news ≡ line.NoParts parts
-TellsOf log2m parts limit fault.Limit news = news ≡ line.NoLimit limit
-TellsOf log2m parts limit fault.Vertices news = ⊥
+abbrev pub TellsOf : ℕ → ℕ → ℕ → PlanError → ProgressLine → Type 0
+TellsOf log2m parts limit fault.Log2m said = said ≡ line.NoLog2m log2m
+TellsOf log2m parts limit fault.Parts said = said ≡ line.NoParts parts
+TellsOf log2m parts limit fault.Limit said = said ≡ line.NoLimit limit
+TellsOf log2m parts limit fault.Vertices said = ⊥
 
 -- the line tells of a fault that every plan by these numbers has, whatever the graph
-pub record Foretells (log2m parts limit : ℕ) (news : News) : Type 0 where
+pub record Foretells (log2m parts limit : ℕ) (said : ProgressLine) : Type 0 where
   pub error : PlanError
-  pub tells : TellsOf log2m parts limit error news
+  pub tells : TellsOf log2m parts limit error said
   pub refused : (n : Numbers) (g : Graph) → AsksBy log2m parts limit n → plan_asked n g ≡ Err error
 
 -- if a plan by these numbers is refused, it is for its vertices

@@ -15,7 +15,7 @@ use Rattle.graph.specs.declared.delimiter.Delimiter.{Delimiter}
 use Rattle.graph.specs.declared.delimiter.Delimiter.TheVariants.{Tab, Comma, Space}
 use Rattle.ball_model.specs.declared.names.NodeId.{NodeId}
 use Rattle.job.specs.declared.job.JobOptions.{JobOptions}
-use Rattle.hyperball.specs.declared.cli.run.RunWords.{RunWords}
+use Rattle.hyperball.specs.declared.cli.run.RunArgs.{RunArgs}
 use Rattle.hyperball.specs.declared.cli.orders.OrdersError.{OrdersError}
 use Rattle.hyperball.specs.declared.cli.orders.OrdersError.TheVariants as orders_error
 use Rattle.hyperball.specs.declared.cli.WordsError.{WordsError}
@@ -91,11 +91,11 @@ pub record AreJobOptionsOf (rows : List Row) (job : JobInput) : Type 0 where
   pub counted : IsFlag rows (codes "counted") job.counted
 
 -- what a run asks of its job
-abbrev pub run_input : RunWords → JobInput
+abbrev pub run_input : RunArgs → JobInput
 run_input w = record { options = run_job w.options; counted = w.counted }
 
 -- the options of a run have these values, whatever its lists of orders are
-pub record AreOptionsOf (rows : List Row) (w : RunWords) : Type 0 where
+pub record AreOptionsOf (rows : List Row) (w : RunArgs) : Type 0 where
   pub job : AreJobOptionsOf rows (run_input w)
   pub large : IsFlag rows (codes "large") w.options.large
   pub threads : IsNumberOr usual_options.threads 16 rows (codes "threads") w.options.threads
@@ -106,7 +106,7 @@ pub record AreOptionsOf (rows : List Row) (w : RunWords) : Type 0 where
   pub progress : IsFlag rows (codes "progress") w.progress
 
 -- the subcommand is run, with these options or their defaults
-abbrev pub IsRunOf : Option (Text × List Row) → RunWords → Type 0
+abbrev pub IsRunOf : Option (Text × List Row) → RunArgs → Type 0
 IsRunOf sub w = (rows : List Row) × (sub ≡ Some (codes "run", rows)) × AreOptionsOf rows w
 
 -- a list of orders is given
@@ -196,7 +196,7 @@ FailsFor kinds (words.Orders e) = kinds ≡ []
 abbrev pub FailsWith : {A : Type 0} → List ErrorKind → Result A WordsError → Type 0
 FailsWith kinds result = MatchResult result (λ a. kinds ≡ []) (FailsFor kinds)
 
--- a mistake, and no wish for help
+-- a mistake, and no subcommand for help
 abbrev pub IsMistake : ErrorKind → Type 0
 IsMistake k = (k ≢ kind.OutOfMemory) × ((k ≢ kind.DisplayHelp) × (k ≢ kind.DisplayVersion))
 

@@ -7,8 +7,9 @@ ghost use Rattle.clap.specs.declared.error.kind.ErrorKind.{ErrorKind};
 ghost use Rattle.hyperball.specs.CommandLine.{IsApp, Parsers, TakeNames, hyperball_app};
 ghost use Rattle.hyperball.specs.CommandLine.{new_hyperball};
 ghost use Rattle.hyperball.specs.Progress.{Foretells};
-ghost use Rattle.hyperball.specs.Wishes.{AnswersWish, IsOfSubcommand, IsOfWords, IsWish, IsWishOf};
-ghost use Rattle.hyperball.specs.Wishes.{ForetellsOf, Says, tells_progress};
+ghost use Rattle.hyperball.specs.Subcommands.{AnswersSubcommand, ForetellsOf, IsOfMatches};
+ghost use Rattle.hyperball.specs.Subcommands.{IsOfWords, IsSubcommand, IsSubcommandOf, Says};
+ghost use Rattle.hyperball.specs.Subcommands.{tells_progress};
 ghost use Rattle.hyperball.specs.Words.{FailsWith, HasFaults, ParsesTo, RefusesLists};
 ghost use Rattle.hyperball.specs.Words.{RefusesOrders, texts_of};
 
@@ -20,14 +21,14 @@ pub mod orders;
 pub mod replay;
 pub mod run;
 
-use crate::cli::gather::{GatherWords, gather_command, gather_words_of};
-use crate::cli::one_node::{NodeWords, node_command, node_words_of};
+use crate::cli::gather::{GatherArgs, gather_command, gather_args_of};
+use crate::cli::one_node::{NodeArgs, node_command, node_args_of};
 use crate::cli::options::{delimiters, estimates};
 use crate::cli::orders::OrdersError;
-use crate::cli::replay::{ReplayWords, replay_command, replay_words_of};
-use crate::cli::run::{RunWords, run_command, run_words};
+use crate::cli::replay::{ReplayArgs, replay_args_of, replay_command};
+use crate::cli::run::{RunArgs, run_args, run_command};
 use crate::fault::Fault;
-use crate::lines::News;
+use crate::lines::ProgressLine;
 use crate::progress::foretold;
 use clap::{ArgMatches, Command, Error};
 use job::JobOptions;
@@ -86,63 +87,63 @@ fn parse<'a>(alloc: Global, words: &'a [String]) -> Result<ArgMatches<'a>, Error
 
 /// What a command line asks for.
 #[derive(Drop)]
-pub enum Wish {
+pub enum Subcommand {
     /// A run.
-    Run(RunWords),
+    Run(RunArgs),
     /// A replay.
-    Replay(ReplayWords),
+    Replay(ReplayArgs),
     /// A node of a partition.
-    Node(NodeWords),
+    Node(NodeArgs),
     /// The report of checkpoints.
-    Gather(GatherWords),
+    Gather(GatherArgs),
 }
 
 // What is told of a job's numbers if no plan has them.
-fn foretold_of(job: &JobOptions) -> Option<News>
+fn foretold_of(job: &JobOptions) -> Option<ProgressLine>
     ensures { IfSome result (Foretells job.now.log2m job.now.parts job.now.limit) }
 {
     foretold(job.log2m, job.parts, job.limit)
 }
 
-impl Wish {
+impl Subcommand {
     /// Whether progress is to be reported.
     pub fn tells_progress(&self) -> bool
         ensures { result ≡ tells_progress self.now }
     {
         match self {
-            Wish::Run(words) => words.progress,
-            Wish::Replay(words) => words.progress,
-            Wish::Node(words) => words.progress,
-            Wish::Gather(words) => words.progress,
+            Subcommand::Run(args) => args.progress,
+            Subcommand::Replay(args) => args.progress,
+            Subcommand::Node(args) => args.progress,
+            Subcommand::Gather(args) => args.progress,
         }
     }
 
     /// What is told before the edge list is read, if no plan has the numbers, whatever the graph. (A replay's script is
     /// checked before its plan, and the other options of a run before all else.)
-    pub fn foretold(&self) -> Option<News>
+    pub fn foretold(&self) -> Option<ProgressLine>
         ensures { IfSome result (ForetellsOf self.now) }
     {
         match self {
-            Wish::Run(words) if words.options.are_in_limits() => {
-                foretold_of(&words.options.job())
+            Subcommand::Run(args) if args.options.are_in_limits() => {
+                foretold_of(&args.options.job())
             }
-            Wish::Node(words) => foretold_of(&words.job.options),
-            Wish::Gather(words) => foretold_of(&words.job.options),
-            Wish::Run(_) | Wish::Replay(_) => None,
+            Subcommand::Node(args) => foretold_of(&args.job.options),
+            Subcommand::Gather(args) => foretold_of(&args.job.options),
+            Subcommand::Run(_) | Subcommand::Replay(_) => None,
         }
     }
 }
 
-/// What serves a wish: the machine, and who tells how it gets on, if that is to be reported.
+/// What serves a subcommand: the machine, and who tells how it gets on, if that is to be reported.
 #[derive(Drop)]
-pub struct Server<'a, H, T> {
+pub struct Host<'a, H, T> {
     /// What gives memory, random words, threads and the time.
     pub rt: &'a H,
     /// Who tells how it gets on.
     pub teller: &'a Option<T>,
 }
 
-impl<'a, H: RandomSource, T> Server<'a, H, T> {
+impl<'a, H: RandomSource, T> Host<'a, H, T> {
     /// Random words to hash labels by.
     pub fn random_state(&self) -> Result<RandomState, Fault>
         ensures { IfErr result (λ e. e ≡ Fault.Random) }
@@ -164,20 +165,21 @@ pub enum WordsError {
 }
 
 // What the words of a subcommand say.
-fn wish_of(alloc: Global, matches: &ArgMatches<'_>) -> Result<Wish, WordsError>
+fn read_subcommand(alloc: Global, matches: &ArgMatches<'_>) -> Result<Subcommand, WordsError>
     requires { has_subcommand matches.now ≡ true }
-    ensures asked { (x : Wish) → IsWishOf (subcommand_rows_of matches.now) x → AnswersWish x result }
-    ensures found { IfOk result (IsOfSubcommand (subcommand_rows_of matches.now)) }
+    ensures asked { (x : Subcommand) → IsSubcommandOf (subcommand_rows_of matches.now) x →
+        AnswersSubcommand x result }
+    ensures found { IfOk result (IsOfMatches (subcommand_rows_of matches.now)) }
     ensures none { FailsWith [] result }
     ensures lists { (e : OrdersError) → result ≡ Err (WordsError.Orders e) →
         RefusesLists (subcommand_rows_of matches.now) e }
 {
     match matches.subcommand().unwrap() {
-        ("replay", inner) => Ok(Wish::Replay(replay_words_of(inner))),
-        ("node", inner) => Ok(Wish::Node(node_words_of(inner))),
-        ("gather", inner) => Ok(Wish::Gather(gather_words_of(inner))),
-        _ => match run_words(alloc, matches) {
-            Ok(words) => Ok(Wish::Run(words)),
+        ("replay", inner) => Ok(Subcommand::Replay(replay_args_of(inner))),
+        ("node", inner) => Ok(Subcommand::Node(node_args_of(inner))),
+        ("gather", inner) => Ok(Subcommand::Gather(gather_args_of(inner))),
+        _ => match run_args(alloc, matches) {
+            Ok(args) => Ok(Subcommand::Run(args)),
             Err(error) => Err(error),
         },
     }
@@ -185,8 +187,8 @@ fn wish_of(alloc: Global, matches: &ArgMatches<'_>) -> Result<Wish, WordsError>
 
 /// What the words of a command line ask for. The error is why they ask for nothing: lists of orders are read if `clap`
 /// finds nothing wrong.
-pub fn read_words(alloc: Global, words: &[String]) -> Result<Wish, WordsError>
-    ensures asked { (x : Wish) → IsWish (texts_of words.now) x → IfOk result (Says x) }
+pub fn read_words(alloc: Global, words: &[String]) -> Result<Subcommand, WordsError>
+    ensures asked { (x : Subcommand) → IsSubcommand (texts_of words.now) x → IfOk result (Says x) }
     ensures found { IfOk result (IsOfWords (texts_of words.now)) }
     ensures faults { (kinds : List ErrorKind) → HasFaults (texts_of words.now) kinds →
         FailsWith kinds result }
@@ -195,7 +197,7 @@ pub fn read_words(alloc: Global, words: &[String]) -> Result<Wish, WordsError>
         RefusesOrders (texts_of words.now) e }
 {
     match parse(alloc, words) {
-        Ok(matches) => wish_of(alloc, &matches),
+        Ok(matches) => read_subcommand(alloc, &matches),
         Err(error) => Err(WordsError::Clap(error)),
     }
 }

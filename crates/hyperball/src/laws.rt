@@ -18,34 +18,34 @@ ghost use Rattle.hyperball.specs.LawWords.{telling_node, third_node, usual_node,
 ghost use Rattle.hyperball.specs.LawWords.{one_order, two_orders};
 ghost use Rattle.hyperball.specs.Orders.{AreOrders};
 ghost use Rattle.hyperball.specs.Progress.{IsLineBehind, line_of, mark_of_program};
-ghost use Rattle.hyperball.specs.Wishes.{AsksAnother, AsksWish, IsGather, IsNode, IsReplay};
-ghost use Rattle.hyperball.specs.Wishes.{IsRun, IsWish};
+ghost use Rattle.hyperball.specs.Subcommands.{AsksAnother, AsksSubcommand, IsGather, IsNode};
+ghost use Rattle.hyperball.specs.Subcommands.{IsReplay, IsRun, IsSubcommand};
 ghost use Rattle.hyperball.specs.Words.{AsksProgress, HasFaults};
-ghost use Rattle.hyperball.specs.declared.cli.Wish.{Wish};
-ghost use Rattle.hyperball.specs.declared.cli.run.RunWords.{RunWords};
+ghost use Rattle.hyperball.specs.declared.cli.Subcommand.{Subcommand};
+ghost use Rattle.hyperball.specs.declared.cli.run.RunArgs.{RunArgs};
 ghost use Rattle.hyperball.specs.declared.hints.Hint.{Hint};
-ghost use Rattle.hyperball.specs.declared.lines.News.{News};
+ghost use Rattle.hyperball.specs.declared.lines.ProgressLine.{ProgressLine};
 
 /// These words are read as those of run; an option that is not given has its default. (Of lists of orders nothing is said
 /// here.)
 pub fn words_of_a_run()
-    ensures log2m { (w : RunWords) → IsRun
+    ensures log2m { (w : RunArgs) → IsRun
         (codes "hyperball" ∷ codes "run" ∷ codes "--log2m" ∷ codes "4" ∷ [])
         (log2m_words w) }
-    ensures limit { (w : RunWords) → IsRun
+    ensures limit { (w : RunArgs) → IsRun
         (codes "hyperball" ∷ codes "run" ∷ codes "--delimiter=space" ∷ codes "--limit=5000" ∷ [])
         (space_words w) }
-    ensures estimate { (w : RunWords) → IsRun
+    ensures estimate { (w : RunArgs) → IsRun
         (codes "hyperball" ∷ codes "run" ∷ codes "--estimate" ∷ codes "corrected" ∷ [])
         (corrected_words w) }
-    ensures counted { (w : RunWords) → IsRun
+    ensures counted { (w : RunArgs) → IsRun
         (codes "hyperball" ∷ codes "run" ∷ codes "--counted" ∷ codes "--parts" ∷ codes "2" ∷ [])
         (counted_words w) }
-    ensures nodes { (w : RunWords) → IsRun
+    ensures nodes { (w : RunArgs) → IsRun
         (codes "hyperball" ∷ codes "run" ∷ codes "--replicas" ∷ codes "2" ∷ codes "--keep=0"
         ∷ codes "--lose" ∷ codes "0.1@2" ∷ [])
         (node_words w) }
-    ensures board { (w : RunWords) → IsRun
+    ensures board { (w : RunArgs) → IsRun
         (codes "hyperball" ∷ codes "run" ∷ codes "--entries" ∷ codes "64" ∷ codes "--patience=10"
         ∷ codes "--restart" ∷ codes "0.0@2" ∷ codes "--threads" ∷ codes "2" ∷ codes "--large" ∷ [])
         (board_words w) }
@@ -180,7 +180,7 @@ pub fn words_of_progress()
     ensures gather { AsksProgress
         (codes "hyperball" ∷ codes "gather" ∷ codes "--progress" ∷ [])
         true }
-    ensures one { (words : List Text) (x : Wish) → IsWish words x →
+    ensures one { (words : List Text) (x : Subcommand) → IsSubcommand words x →
         AsksProgress words true → AsksProgress words false → ⊥ }
 {}
 
@@ -201,7 +201,7 @@ pub fn words_of_no_progress()
 
 /// Each line of progress begins with `hyperball: `, and has one LF, at its end.
 pub fn lines_of_progress()
-    ensures { (news : News) → IsLineBehind mark_of_program (line_of news) }
+    ensures { (said : ProgressLine) → IsLineBehind mark_of_program (line_of said) }
 {}
 
 /// Each hint begins with `hyperball: `, and has one LF, at its end.
@@ -212,8 +212,10 @@ pub fn lines_of_hints()
 /// Words that are read as those of a replay, of a node or of a gathering ask for that one. Words that are read as those
 /// of any command ask for none of the three but their own.
 pub fn words_of_one_command()
-    ensures asked { (words : List Text) (x : Wish) → IsWish words x → AsksWish words x }
-    ensures another { (words : List Text) (x : Wish) → IsWish words x → AsksAnother words x → ⊥ }
+    ensures asked { (words : List Text) (x : Subcommand) → IsSubcommand words x →
+        AsksSubcommand words x }
+    ensures another { (words : List Text) (x : Subcommand) → IsSubcommand words x →
+        AsksAnother words x → ⊥ }
 {}
 
 /// These texts are lists of orders, and these are none: a superstep is wanted, no number has leading zeros, no list

@@ -6,7 +6,7 @@ use std::fmt::Display;
 
 /// A line of progress.
 #[derive(Clone, Copy, Debug)]
-pub enum News {
+pub enum ProgressLine {
     /// No plan has this log2m, whatever the graph.
     NoLog2m {
         log2m: u8,
@@ -51,43 +51,43 @@ pub enum News {
     Commands,
 }
 
-impl Display for News {
+impl Display for ProgressLine {
     ghost use Rattle.std.specs.Prelude.{Some};
-    ghost use Rattle.hyperball.specs.Progress.{news_line};
+    ghost use Rattle.hyperball.specs.Progress.{progress_line};
 
-    ghost output = { λ news. Some (news_line news) };
+    ghost output = { λ line. Some (progress_line line) };
 
     fn fmt<W: fmt::Write>(&self, f: &mut fmt::Formatter<W>) -> fmt::Result {
         match *self {
-            News::NoLog2m { log2m } => {
+            ProgressLine::NoLog2m { log2m } => {
                 write!(
                     f,
                     "hyperball: no plan has log2m {log2m} (4 to 10 are allowed): the job will be refused once the edge list is read"
                 )
             }
-            News::NoParts { parts } => {
+            ProgressLine::NoParts { parts } => {
                 write!(
                     f,
                     "hyperball: no plan has parts {parts} (1 to 64 are allowed): the job will be refused once the edge list is read"
                 )
             }
-            News::NoLimit { limit } => {
+            ProgressLine::NoLimit { limit } => {
                 write!(
                     f,
                     "hyperball: no plan has limit {limit} (1 to 4096 are allowed): the job will be refused once the edge list is read"
                 )
             }
-            News::Reading { records } => {
+            ProgressLine::Reading { records } => {
                 write!(f, "hyperball: {records} records are read so far")
             }
-            News::Read { records, vertices } => {
+            ProgressLine::Read { records, vertices } => {
                 write!(
                     f,
                     "hyperball: {records} records and {vertices} vertices are read"
                 )
             }
-            News::Start => write!(f, "hyperball: the supersteps begin"),
-            News::Superstep {
+            ProgressLine::Start => write!(f, "hyperball: the supersteps begin"),
+            ProgressLine::Superstep {
                 superstep,
                 changed,
                 vertices,
@@ -97,7 +97,7 @@ impl Display for News {
                     "hyperball: superstep {superstep}, {changed} of {vertices} vertices changed"
                 )
             }
-            News::Close {
+            ProgressLine::Close {
                 node,
                 superstep,
                 changed,
@@ -109,9 +109,9 @@ impl Display for News {
                     "hyperball: node {part}.{replica} at superstep {superstep}, {changed} of its {vertices} vertices changed"
                 )
             }
-            News::Report => write!(f, "hyperball: the report is written"),
-            News::Answers => write!(f, "hyperball: the answers are written"),
-            News::Commands => write!(f, "hyperball: the commands are answered"),
+            ProgressLine::Report => write!(f, "hyperball: the report is written"),
+            ProgressLine::Answers => write!(f, "hyperball: the answers are written"),
+            ProgressLine::Commands => write!(f, "hyperball: the commands are answered"),
         }
     }
 }

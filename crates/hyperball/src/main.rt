@@ -4,11 +4,11 @@
 //! plays a script over one; `hyperball node` is one partition's node that answers commands, and `hyperball gather`
 //! writes the report of the checkpoints of all partitions. Each has a file in [`cli`], with its words and what it does.
 //! This file hands the real streams to [`serve::serve`], which goes from words and bytes to bytes and a status.
-//! [`cli::read_words`] gives what the words ask for, a [`cli::Wish`]: of a run what is asked of it, with the lists of
+//! [`cli::read_words`] gives what the words ask for, a [`cli::Subcommand`]: of a run what is asked of it, with the lists of
 //! orders ([`cli::orders`]). With `--counted` a run reads its input whole ([`whole::read_whole`]) and cuts it into its
 //! parts ([`whole::parts_of`]), and so does a replay. The run itself is [`workers::run_watched`]. How a command gets on
-//! is reported in lines of progress ([`lines::News`]), if that is asked for ([`progress`]). What is told unasked comes
-//! from here: that the input is to be typed, that no plan has the numbers ([`cli::Wish::foretold`]), and what is probably
+//! is reported in lines of progress ([`lines::ProgressLine`]), if that is asked for ([`progress`]). What is told unasked comes
+//! from here: that the input is to be typed, that no plan has the numbers ([`cli::Subcommand::foretold`]), and what is probably
 //! wrong with the input ([`hints`]).
 //!
 //! ```text
@@ -36,9 +36,9 @@ pub mod serve;
 mod tests;
 pub mod whole;
 
-use crate::cli::Wish;
+use crate::cli::Subcommand;
 use crate::hints::{HintingReader, Look};
-use crate::progress::Teller;
+use crate::progress::ProgressTeller;
 use ball_model::{CountingReader, CountingWriter};
 use std::io::{BufReader, ErrorKind, IsTerminal, Write};
 use std::process::ExitCode;
@@ -60,21 +60,21 @@ fn tell_no_words(rt: &HostRuntime, error: io::Error) -> u8 {
 }
 
 // What a user is to know before anything is read: that the input is to be typed, and that no plan has the numbers.
-fn tell_before(rt: &HostRuntime, wish: &Wish) {
+fn tell_before(rt: &HostRuntime, subcommand: &Subcommand) {
     if rt.stdin().is_terminal() {
         let told =
             "hyperball: reads its input from the terminal; Ctrl-D on a line of its own ends it";
         let _ = writeln!(rt.stderr(), "{told}");
     }
-    if let Some(news) = wish.foretold() {
-        rt.stderr().tell(news);
+    if let Some(line) = subcommand.foretold() {
+        rt.stderr().tell(line);
     }
 }
 
 // What is looked at in the input: the edge list of a run.
-fn look_of(wish: &Wish) -> Look {
-    match wish {
-        Wish::Run(words) => Look::new(words.options.delimiter, words.counted),
+fn look_of(subcommand: &Subcommand) -> Look {
+    match subcommand {
+        Subcommand::Run(args) => Look::new(args.options.delimiter, args.counted),
         _ => Look::closed(),
     }
 }
@@ -86,9 +86,9 @@ fn main(rt: HostRuntime) -> ExitCode {
     };
     // Words that ask for help, or are refused, read nothing.
     let look = match cli::read_words(rt.alloc(), &words) {
-        Ok(wish) => {
-            tell_before(&rt, &wish);
-            look_of(&wish)
+        Ok(subcommand) => {
+            tell_before(&rt, &subcommand);
+            look_of(&subcommand)
         }
         Err(_) => Look::closed(),
     };

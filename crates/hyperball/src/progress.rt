@@ -1,13 +1,13 @@
 //! What is reported of how a command gets on, if that is asked for.
 //!
-//! [`LendTeller`] hands out a [`Teller`], which tells lines of progress ([`News`]) and nothing else, and takes it back.
+//! [`LendTeller`] hands out a [`ProgressTeller`], which tells lines of progress ([`ProgressLine`]) and nothing else, and takes it back.
 //! What is refused whatever the graph ([`foretold`]) is told unasked. Of a run [`RunProgress`] says what is reported, and
-//! its [`TellingGate`] says when; a replay, a node and a gathering have a [`TellingWatch`].
+//! its [`ProgressGate`] says when; a replay, a node and a gathering have a [`ProgressWatch`].
 
 ghost use Rattle.std.specs.Prelude.{◌≡◌, IfSome, List, None, Option, ℕ};
 ghost use Rattle.hyperball.specs.Progress.{Foretells, IsRefusedForVertices, TellsProgress};
 
-use crate::lines::News;
+use crate::lines::ProgressLine;
 use ball_model::plan::GREATEST_LIMIT;
 use ball_model::{NodeId, Plan, PlanError};
 use edgelist::ReadWatch;
@@ -19,21 +19,21 @@ use std::time::{Clock, Instant};
 use workers::{Gate, SleepingGate};
 
 /// What tells lines of progress.
-pub trait Teller {
+pub trait ProgressTeller {
     /// Tells a line, which is dropped if it cannot be written.
-    fn tell(&self, news: News);
+    fn tell(&self, line: ProgressLine);
 }
 
-impl Teller for Stderr {
-    fn tell(&self, news: News) {
-        let _ = self.eprintln(news);
+impl ProgressTeller for Stderr {
+    fn tell(&self, line: ProgressLine) {
+        let _ = self.eprintln(line);
     }
 }
 
 /// Where faults are reported, and progress if it is asked for.
 pub trait LendTeller: Write {
     /// What tells progress there, from any thread.
-    type Teller: Teller + Sync + Drop;
+    type Teller: ProgressTeller + Sync + Drop;
 
     // It has handed out this teller when that was there, and nothing was written to it since.
     ghost has_lent: { Self → Self.Teller → Option (List ℕ) → Type 0 };
@@ -65,14 +65,14 @@ impl LendTeller for Stderr {
 
 /// What is reported of these numbers if no plan has them, whatever the graph: the first of them in the order of the
 /// checks. (A plan of no vertices has the same fault.)
-pub fn foretold(log2m: u8, parts: u16, limit: u32) -> Option<News>
+pub fn foretold(log2m: u8, parts: u16, limit: u32) -> Option<ProgressLine>
     ensures some { IfSome result (Foretells log2m parts limit) }
     ensures none { result ≡ None → IsRefusedForVertices log2m parts limit }
 {
     match Plan::new(log2m, 0, parts, limit, 0, [0; 32]) {
-        Err(PlanError::Log2m) => Some(News::NoLog2m { log2m }),
-        Err(PlanError::Parts) => Some(News::NoParts { parts }),
-        Err(PlanError::Limit) => Some(News::NoLimit { limit }),
+        Err(PlanError::Log2m) => Some(ProgressLine::NoLog2m { log2m }),
+        Err(PlanError::Parts) => Some(ProgressLine::NoParts { parts }),
+        Err(PlanError::Limit) => Some(ProgressLine::NoLimit { limit }),
         Err(PlanError::Vertices) | Ok(_) => None,
     }
 }
@@ -111,7 +111,7 @@ pub struct RunProgress<'a, T> {
     supersteps: Vec<Superstep>,
 }
 
-impl<'a, T: Teller> RunProgress<'a, T> {
+impl<'a, T: ProgressTeller> RunProgress<'a, T> {
     /// Nothing is reported yet, of a run of so many partitions. The error is that memory was refused.
     pub fn new(alloc: Global, teller: &'a T, parts: u16) -> Result<RunProgress<'a, T>, AllocError> {
         Ok(RunProgress {
@@ -126,19 +126,19 @@ impl<'a, T: Teller> RunProgress<'a, T> {
 
     // So many records are read so far.
     fn tell_reading(&self, records: u64) {
-        self.teller.tell(News::Reading { records });
+        self.teller.tell(ProgressLine::Reading { records });
     }
 
     // The edge list is read.
     fn note_edge_list(&self, records: u64, vertices: u32) {
         self.vertices.store(vertices, Ordering::SeqCst);
-        self.teller.tell(News::Read { records, vertices });
+        self.teller.tell(ProgressLine::Read { records, vertices });
     }
 
     // A node is at superstep 0. The first one tells it.
     fn note_start(&self) {
         if self.started.fetch_add(1, Ordering::SeqCst) == 0 {
-            self.teller.tell(News::Start);
+            self.teller.tell(ProgressLine::Start);
         }
     }
 
@@ -163,7 +163,7 @@ impl<'a, T: Teller> RunProgress<'a, T> {
     // All partitions have come to a superstep.
     fn tell_superstep(&self, superstep: u32, changed: u64) {
         let vertices = self.vertices.load(Ordering::SeqCst);
-        self.teller.tell(News::Superstep {
+        self.teller.tell(ProgressLine::Superstep {
             superstep,
             changed,
             vertices,
@@ -172,7 +172,7 @@ impl<'a, T: Teller> RunProgress<'a, T> {
 
     // The report is written.
     fn tell_report(&self) {
-        self.teller.tell(News::Report);
+        self.teller.tell(ProgressLine::Report);
     }
 }
 
@@ -236,25 +236,25 @@ impl<'a, C: Clock> ReadingPause<'a, C> {
 
 /// A gate whose idle turns sleep, and which tells how the run gets on if there is a teller.
 #[derive(Drop)]
-pub struct TellingGate<'a, C, T> {
+pub struct ProgressGate<'a, C, T> {
     sleeping: SleepingGate<'a, C>,
     pause: ReadingPause<'a, C>,
     progress: Option<RunProgress<'a, T>>,
 }
 
-impl<'a, C: Clock, T: Teller> TellingGate<'a, C, T> {
+impl<'a, C: Clock, T: ProgressTeller> ProgressGate<'a, C, T> {
     /// A gate that sleeps by this clock, of a run of so many partitions. The error is that memory was refused.
     pub fn new(
         alloc: Global,
         clock: &'a C,
         teller: Option<&'a T>,
         parts: u16,
-    ) -> Result<TellingGate<'a, C, T>, AllocError> {
+    ) -> Result<ProgressGate<'a, C, T>, AllocError> {
         let progress = match teller {
             Some(teller) => Some(RunProgress::new(alloc, teller, parts)?),
             None => None,
         };
-        Ok(TellingGate {
+        Ok(ProgressGate {
             sleeping: SleepingGate::new(alloc, clock)?,
             pause: ReadingPause::new(clock),
             progress,
@@ -271,7 +271,7 @@ impl<'a, C: Clock, T: Teller> TellingGate<'a, C, T> {
     }
 }
 
-impl<'a, C: Clock, T: Teller> Gate for TellingGate<'a, C, T> {
+impl<'a, C: Clock, T: ProgressTeller> Gate for ProgressGate<'a, C, T> {
     fn before_post(&self, node: NodeId, superstep: u32) {
         self.sleeping.before_post(node, superstep);
     }
@@ -285,7 +285,7 @@ impl<'a, C: Clock, T: Teller> Gate for TellingGate<'a, C, T> {
     }
 }
 
-impl<'a, C: Clock, T: Teller> ReadWatch for TellingGate<'a, C, T> {
+impl<'a, C: Clock, T: ProgressTeller> ReadWatch for ProgressGate<'a, C, T> {
     fn while_read(&self, records: u64) {
         if let Some(progress) = &self.progress
             && self.pause.is_over()
@@ -317,48 +317,48 @@ impl<'a, C: Clock, T: Teller> Watch for TellingGate<'a, C, T> {
 
 /// A watch that tells how a replay, a node or a gathering gets on, if there is a teller.
 #[derive(Clone, Copy)]
-pub struct TellingWatch<'a, T> {
+pub struct ProgressWatch<'a, T> {
     teller: &'a Option<T>,
 }
 
-impl<'a, T: Teller> TellingWatch<'a, T> {
+impl<'a, T: ProgressTeller> ProgressWatch<'a, T> {
     /// Nothing is reported yet.
-    pub fn new(teller: &'a Option<T>) -> TellingWatch<'a, T> {
-        TellingWatch { teller }
+    pub fn new(teller: &'a Option<T>) -> ProgressWatch<'a, T> {
+        ProgressWatch { teller }
     }
 
     /// The replay has written its answers.
     pub fn after_replay(&self) {
-        self.tell(News::Answers);
+        self.tell(ProgressLine::Answers);
     }
 
     /// The node has answered all commands.
     pub fn after_commands(&self) {
-        self.tell(News::Commands);
+        self.tell(ProgressLine::Commands);
     }
 
     /// The gathering has written its report.
     pub fn after_gathering(&self) {
-        self.tell(News::Report);
+        self.tell(ProgressLine::Report);
     }
 
     // Tells a line if there is a teller.
-    fn tell(&self, news: News) {
+    fn tell(&self, line: ProgressLine) {
         if let Some(teller) = self.teller {
-            teller.tell(news);
+            teller.tell(line);
         }
     }
 }
 
-impl<'a, T: Teller> ReadWatch for TellingWatch<'a, T> {}
+impl<'a, T: ProgressTeller> ReadWatch for ProgressWatch<'a, T> {}
 
-impl<'a, T: Teller> Watch for TellingWatch<'a, T> {
+impl<'a, T: ProgressTeller> Watch for ProgressWatch<'a, T> {
     fn after_read(&self, records: u64, vertices: u32) {
-        self.tell(News::Read { records, vertices });
+        self.tell(ProgressLine::Read { records, vertices });
     }
 
     fn after_close(&self, node: NodeId, superstep: u32, changed: u32, vertices: u32) {
-        self.tell(News::Close {
+        self.tell(ProgressLine::Close {
             node,
             superstep,
             changed,

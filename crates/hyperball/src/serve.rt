@@ -11,7 +11,7 @@ ghost use Rattle.hyperball.specs.Progress.{Awaits, TellsAsAsked, TellsProgress};
 ghost use Rattle.hyperball.specs.Streams.{AppendsSome, KeptOrFailed, Unread, Unwritten};
 ghost use Rattle.hyperball.specs.Streams.{reads_of, writes_of};
 ghost use Rattle.hyperball.specs.Whole.{ReadsFew};
-ghost use Rattle.hyperball.specs.Wishes.{IsWish, ReadsAll};
+ghost use Rattle.hyperball.specs.Subcommands.{IsSubcommand, ReadsAll};
 ghost use Rattle.hyperball.specs.Words.{AsksProgress, FailsFor, HasFaults, texts_of};
 
 use crate::cli::gather::gather_by;
@@ -19,9 +19,9 @@ use crate::cli::one_node::node_by;
 use crate::cli::orders::OrdersError;
 use crate::cli::replay::replay_by;
 use crate::cli::run::run_by;
-use crate::cli::{Server, Wish, WordsError, read_words};
+use crate::cli::{Host, Subcommand, WordsError, read_words};
 use crate::fault::{Fault, tell_fault};
-use crate::progress::{LendTeller, Teller};
+use crate::progress::{LendTeller, ProgressTeller};
 use ball_model::{CountedRead, CountedWrite, put_all};
 use clap::error::ErrorKind;
 use std::alloc::{AllocGlobal, Global};
@@ -185,35 +185,40 @@ fn end_telling<F: LendTeller>(teller: Option<F::Teller>, faults: &mut F)
 // Does what words ask for. Without random words nothing is read or written.
 fn fulfil<
     H: AllocGlobal + Clock + RandomSource + Threads + Wait + Sync,
-    T: Teller + Sync,
+    T: ProgressTeller + Sync,
     R: CountedRead,
     W: CountedWrite,
->(server: &Server<'_, H, T>, wish: Wish, reader: &mut R, writer: &mut W) -> Result<(), Fault>
-    ensures done { OnOk result (Does wish
+>(
+    host: &Host<'_, H, T>,
+    subcommand: Subcommand,
+    reader: &mut R,
+    writer: &mut W,
+) -> Result<(), Fault>
+    ensures done { OnOk result (Does subcommand
         (reads_of R.remaining R.failed_calls R.sure_calls reader.old reader.new)
         (writes_of W.contents W.failed_calls writer.old writer.new)) }
-    ensures fault { IfErr result (FailsBy wish
+    ensures fault { IfErr result (FailsBy subcommand
         (reads_of R.remaining R.failed_calls R.sure_calls reader.old reader.new)
         (writes_of W.contents W.failed_calls writer.old writer.new)) }
-    ensures few { ReadsAll wish → ReadsFew (R.remaining reader.old) (R.remaining reader.new) }
+    ensures few { ReadsAll subcommand → ReadsFew (R.remaining reader.old) (R.remaining reader.new) }
 {
-    match wish {
+    match subcommand {
         // (A run first makes its gate, and then looks for random words itself.)
-        Wish::Run(words) => run_by(server, words, reader, writer),
-        Wish::Replay(words) => {
-            let state = server.random_state()?;
-            replay_by(server, state, &words, reader, writer)
+        Subcommand::Run(args) => run_by(host, args, reader, writer),
+        Subcommand::Replay(args) => {
+            let state = host.random_state()?;
+            replay_by(host, state, &args, reader, writer)
         }
-        Wish::Node(words) => {
-            let state = server.random_state()?;
-            match node_by(server, state, &words, reader, writer) {
+        Subcommand::Node(args) => {
+            let state = host.random_state()?;
+            match node_by(host, state, &args, reader, writer) {
                 Ok(()) => Ok(()),
                 Err(error) => Err(Fault::Node(error)),
             }
         }
-        Wish::Gather(words) => {
-            let state = server.random_state()?;
-            match gather_by(server, state, &words, reader, writer) {
+        Subcommand::Gather(args) => {
+            let state = host.random_state()?;
+            match gather_by(host, state, &args, reader, writer) {
                 Ok(()) => Ok(()),
                 Err(error) => Err(Fault::Gather(error)),
             }
@@ -238,7 +243,7 @@ pub fn serve<
     W: CountedWrite,
     F: LendTeller,
 >(rt: &H, words: &[String], reader: &mut R, writer: &mut W, faults: &mut F) -> u8
-    ensures asked { (x : Wish) → IsWish (texts_of words.now) x →
+    ensures asked { (x : Subcommand) → IsSubcommand (texts_of words.now) x →
         Ends (texts_of words.now) x result
         (reads_of R.remaining R.failed_calls R.sure_calls reader.old reader.new)
         (writes_of W.contents W.failed_calls writer.old writer.new) }
@@ -258,16 +263,16 @@ pub fn serve<
     ensures told { result ≡ 0 → TellsAsAsked (AsksProgress (texts_of words.now) false)
         (F.contents faults.old) (F.contents faults.new) }
 {
-    let wish = match read_words(rt.alloc(), words) {
-        Ok(wish) => wish,
+    let subcommand = match read_words(rt.alloc(), words) {
+        Ok(subcommand) => subcommand,
         Err(error) => return tell_words(rt.alloc(), words, &error, writer, faults),
     };
-    let teller = teller_for(wish.tells_progress(), faults);
-    let server = Server {
+    let teller = teller_for(subcommand.tells_progress(), faults);
+    let host = Host {
         rt,
         teller: &teller,
     };
-    let answer = fulfil(&server, wish, reader, writer);
+    let answer = fulfil(&host, subcommand, reader, writer);
     end_telling(teller, faults);
     match answer {
         Ok(()) => DONE,

@@ -8,10 +8,10 @@ ghost use Rattle.hyperball.specs.Nodes.{AreGatherOptionsOf};
 ghost use Rattle.hyperball.specs.Streams.{reads_of, writes_of};
 ghost use Rattle.hyperball.specs.Words.{IsFlag};
 
-use crate::cli::Server;
+use crate::cli::Host;
 use crate::cli::arguments::{Texts, large, progress, subcommand_of, threads};
 use crate::cli::options::{USUAL, job_arguments, job_input_of, wants_large, wants_progress};
-use crate::progress::{Teller, TellingWatch};
+use crate::progress::{ProgressTeller, ProgressWatch};
 use ball_model::{CountedRead, CountedWrite};
 use clap::builder::ValueParser;
 use clap::{ArgMatches, Command};
@@ -63,7 +63,7 @@ const GATHER_THREADS_HELP: &str =
 
 /// What the words of a gathering say.
 #[derive(Clone, Copy, PartialEq, Eq)]
-pub struct GatherWords {
+pub struct GatherArgs {
     /// What is asked of its job. Its threads make the figures.
     pub job: JobInput,
     /// Whether progress is to be reported.
@@ -91,14 +91,14 @@ pub fn gather_command<'a>(
 }
 
 /// What the words of a gathering say. Values are as `clap` has checked them.
-pub fn gather_words_of(matches: &ArgMatches<'_>) -> GatherWords
-    ensures options { (w : GatherWords) → AreGatherOptionsOf (rows_of (found_of matches.now)) w →
+pub fn gather_args_of(matches: &ArgMatches<'_>) -> GatherArgs
+    ensures options { (w : GatherArgs) → AreGatherOptionsOf (rows_of (found_of matches.now)) w →
         result ≡ w }
     ensures progress { (b : Bool) → IsFlag (rows_of (found_of matches.now)) (codes "progress") b →
         result.progress ≡ b }
 {
     let threads = matches.get_one("threads").unwrap_or(USUAL.threads);
-    GatherWords {
+    GatherArgs {
         job: job_input_of(matches, wants_large(matches), threads),
         progress: wants_progress(matches),
     }
@@ -106,22 +106,27 @@ pub fn gather_words_of(matches: &ArgMatches<'_>) -> GatherWords
 
 /// The report of the checkpoints in the input, of all partitions of a job. If there is a teller, it tells how the
 /// gathering gets on.
-pub fn gather_by<H: AllocGlobal + Threads + Sync, T: Teller, R: CountedRead, W: CountedWrite>(
-    server: &Server<'_, H, T>,
+pub fn gather_by<
+    H: AllocGlobal + Threads + Sync,
+    T: ProgressTeller,
+    R: CountedRead,
+    W: CountedWrite,
+>(
+    host: &Host<'_, H, T>,
     state: RandomState,
-    words: &GatherWords,
+    args: &GatherArgs,
     reader: &mut R,
     writer: &mut W,
 ) -> Result<(), GatherError>
-    ensures done { OnOk result (DoesGather words.now
+    ensures done { OnOk result (DoesGather args.now
         (reads_of R.remaining R.failed_calls R.sure_calls reader.old reader.new)
         (writes_of W.contents W.failed_calls writer.old writer.new)) }
-    ensures fault { IfErr result (FailsGather words.now
+    ensures fault { IfErr result (FailsGather args.now
         (reads_of R.remaining R.failed_calls R.sure_calls reader.old reader.new)
         (writes_of W.contents W.failed_calls writer.old writer.new)) }
 {
-    let watch = TellingWatch::new(server.teller);
-    gather(server.rt, state, &words.job, &watch, reader, writer)?;
+    let watch = ProgressWatch::new(host.teller);
+    gather(host.rt, state, &args.job, &watch, reader, writer)?;
     watch.after_gathering();
     Ok(())
 }

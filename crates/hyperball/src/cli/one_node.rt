@@ -9,10 +9,10 @@ ghost use Rattle.hyperball.specs.Nodes.{AreNodeOptionsOf};
 ghost use Rattle.hyperball.specs.Streams.{reads_of, writes_of};
 ghost use Rattle.hyperball.specs.Words.{IsFlag};
 
-use crate::cli::Server;
+use crate::cli::Host;
 use crate::cli::arguments::{Texts, large, option, progress, subcommand_of};
 use crate::cli::options::{job_arguments, job_input_of, wants_large, wants_progress};
-use crate::progress::{Teller, TellingWatch};
+use crate::progress::{ProgressTeller, ProgressWatch};
 use ball_model::{CountedRead, CountedWrite};
 use clap::builder::ValueParser;
 use clap::{ArgMatches, Command, value_parser};
@@ -82,7 +82,7 @@ const PART_HELP: &str =
 
 /// What the words of a node say.
 #[derive(Clone, Copy, PartialEq, Eq)]
-pub struct NodeWords {
+pub struct NodeArgs {
     /// What is asked of its job.
     pub job: JobInput,
     /// Its partition.
@@ -112,13 +112,13 @@ pub fn node_command<'a>(
 }
 
 /// What the words of a node say. Values are as `clap` has checked them.
-pub fn node_words_of(matches: &ArgMatches<'_>) -> NodeWords
-    ensures options { (w : NodeWords) → AreNodeOptionsOf (rows_of (found_of matches.now)) w →
+pub fn node_args_of(matches: &ArgMatches<'_>) -> NodeArgs
+    ensures options { (w : NodeArgs) → AreNodeOptionsOf (rows_of (found_of matches.now)) w →
         result ≡ w }
     ensures progress { (b : Bool) → IsFlag (rows_of (found_of matches.now)) (codes "progress") b →
         result.progress ≡ b }
 {
-    NodeWords {
+    NodeArgs {
         job: job_input_of(matches, wants_large(matches), 0),
         part: matches.get_one("part").unwrap_or(0),
         progress: wants_progress(matches),
@@ -129,26 +129,26 @@ pub fn node_words_of(matches: &ArgMatches<'_>) -> NodeWords
 /// the node gets on.
 ///
 /// If there is no job, nothing is answered; what was answered before a request that cannot be read stays.
-pub fn node_by<H: AllocGlobal, T: Teller, R: CountedRead, W: CountedWrite>(
-    server: &Server<'_, H, T>,
+pub fn node_by<H: AllocGlobal, T: ProgressTeller, R: CountedRead, W: CountedWrite>(
+    host: &Host<'_, H, T>,
     state: RandomState,
-    words: &NodeWords,
+    args: &NodeArgs,
     reader: &mut R,
     writer: &mut W,
 ) -> Result<(), ServeNodeError>
-    ensures done { OnOk result (DoesNode words.now
+    ensures done { OnOk result (DoesNode args.now
         (reads_of R.remaining R.failed_calls R.sure_calls reader.old reader.new)
         (writes_of W.contents W.failed_calls writer.old writer.new)) }
-    ensures fault { IfErr result (FailsNode words.now
+    ensures fault { IfErr result (FailsNode args.now
         (reads_of R.remaining R.failed_calls R.sure_calls reader.old reader.new)
         (writes_of W.contents W.failed_calls writer.old writer.new)) }
 {
-    let watch = TellingWatch::new(server.teller);
+    let watch = ProgressWatch::new(host.teller);
     serve_node(
-        server.rt.alloc(),
+        host.rt.alloc(),
         state,
-        &words.job,
-        words.part,
+        &args.job,
+        args.part,
         &watch,
         reader,
         writer,

@@ -8,11 +8,11 @@ ghost use Rattle.hyperball.specs.Streams.{reads_of, writes_of};
 ghost use Rattle.hyperball.specs.Whole.{ReadsFew};
 ghost use Rattle.hyperball.specs.Words.{IsFlag};
 
-use crate::cli::Server;
+use crate::cli::Host;
 use crate::cli::arguments::{Texts, option, progress, subcommand_of};
 use crate::cli::options::{PARTS_HELP, job_arguments, job_input_of, wants_progress};
 use crate::fault::Fault;
-use crate::progress::{Teller, TellingWatch};
+use crate::progress::{ProgressTeller, ProgressWatch};
 use crate::whole::{Form, parts_of, read_whole};
 use ball_model::{CountedRead, CountedWrite};
 use clap::builder::ValueParser;
@@ -76,7 +76,7 @@ const REPLICAS: u8 = 1;
 
 /// What the words of a replay say.
 #[derive(Clone, Copy)]
-pub struct ReplayWords {
+pub struct ReplayArgs {
     /// The options.
     pub options: ReplayOptions,
     /// Whether a list of counted vertices follows the edge list.
@@ -106,8 +106,8 @@ pub fn replay_command<'a>(
 }
 
 /// The options of replay. Values are as `clap` has checked them.
-pub fn replay_words_of(matches: &ArgMatches<'_>) -> ReplayWords
-    ensures options { (w : ReplayWords) → AreReplayOptionsOf (rows_of (found_of matches.now)) w →
+pub fn replay_args_of(matches: &ArgMatches<'_>) -> ReplayArgs
+    ensures options { (w : ReplayArgs) → AreReplayOptionsOf (rows_of (found_of matches.now)) w →
         result ≡ w }
     ensures progress { (b : Bool) → IsFlag (rows_of (found_of matches.now)) (codes "progress") b →
         result.progress ≡ b }
@@ -125,7 +125,7 @@ pub fn replay_words_of(matches: &ArgMatches<'_>) -> ReplayWords
         estimate: job.estimate,
         delimiter: job.delimiter,
     };
-    ReplayWords {
+    ReplayArgs {
         options,
         counted,
         progress: wants_progress(matches),
@@ -138,37 +138,37 @@ pub fn replay_words_of(matches: &ArgMatches<'_>) -> ReplayWords
 /// other time, `Input(Size)` only if there are more than 2^26 bytes, and `Lacks` exactly if the input, read whole,
 /// lacks that part. After `Replay(Memory)` and `Replay(Write)` a beginning of the answers may be written; after every
 /// other fault nothing was written.
-pub fn replay_by<H: AllocGlobal, T: Teller, R: CountedRead, W: CountedWrite>(
-    server: &Server<'_, H, T>,
+pub fn replay_by<H: AllocGlobal, T: ProgressTeller, R: CountedRead, W: CountedWrite>(
+    host: &Host<'_, H, T>,
     state: RandomState,
-    words: &ReplayWords,
+    args: &ReplayArgs,
     reader: &mut R,
     writer: &mut W,
 ) -> Result<(), Fault>
-    ensures done { OnOk result (DoesReplay words.now
+    ensures done { OnOk result (DoesReplay args.now
         (reads_of R.remaining R.failed_calls R.sure_calls reader.old reader.new)
         (writes_of W.contents W.failed_calls writer.old writer.new)) }
-    ensures fault { IfErr result (FailsReplay words.now
+    ensures fault { IfErr result (FailsReplay args.now
         (reads_of R.remaining R.failed_calls R.sure_calls reader.old reader.new)
         (writes_of W.contents W.failed_calls writer.old writer.new)) }
     ensures few { ReadsFew (R.remaining reader.old) (R.remaining reader.new) }
 {
-    let alloc = server.rt.alloc();
+    let alloc = host.rt.alloc();
     let input = read_whole(alloc, reader)?;
     let form = Form {
-        list: words.counted,
+        list: args.counted,
         script: true,
     };
     let parts = parts_of(&input, form)?;
     let script = parts.script.unwrap();
-    let watch = TellingWatch::new(server.teller);
+    let watch = ProgressWatch::new(host.teller);
     replay_watched(
         alloc,
         state,
         parts.edges,
         parts.list,
         script,
-        &words.options,
+        &args.options,
         &watch,
         writer,
     )?;

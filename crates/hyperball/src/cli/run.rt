@@ -12,7 +12,7 @@ ghost use Rattle.hyperball.specs.Orders.{AreOrders, SpellsOrders};
 ghost use Rattle.hyperball.specs.Refusals.{DoesJob, FailsJob};
 ghost use Rattle.hyperball.specs.Streams.{reads_of, writes_of};
 ghost use Rattle.hyperball.specs.Whole.{ReadsFew};
-ghost use Rattle.hyperball.specs.Wishes.{with_lists_of};
+ghost use Rattle.hyperball.specs.Subcommands.{with_lists_of};
 ghost use Rattle.hyperball.specs.Words.{AreListed, AreOptionsOf, AreOrdersIn, FailsWith};
 ghost use Rattle.hyperball.specs.Words.{GivesLists, GivesOrders, GivesProgress, IsFlag, IsRunOf};
 ghost use Rattle.hyperball.specs.Words.{MisspellsLists, SpellLists};
@@ -20,9 +20,9 @@ ghost use Rattle.hyperball.specs.Words.{MisspellsLists, SpellLists};
 use crate::cli::arguments::{Argument, Texts, large, option, progress, subcommand_of, threads};
 use crate::cli::options::{USUAL, job_arguments, job_input_of, wants_large, wants_progress};
 use crate::cli::orders::{OrdersError, are_orders, orders_in};
-use crate::cli::{Server, WordsError};
+use crate::cli::{Host, WordsError};
 use crate::fault::Fault;
-use crate::progress::{Teller, TellingGate};
+use crate::progress::{ProgressGate, ProgressTeller};
 use crate::whole::{Form, parts_of, read_whole};
 use ball_model::{CountedRead, CountedWrite, NodeId};
 use clap::builder::ValueParser;
@@ -134,7 +134,7 @@ const PATIENCE: u32 = 1_000_000;
 
 /// What the words of a run say.
 #[derive(Drop)]
-pub struct RunWords {
+pub struct RunArgs {
     /// The options, with the lists of orders.
     pub options: RunOptions,
     /// Whether a list of counted vertices follows the edge list.
@@ -245,8 +245,8 @@ fn orders_of(alloc: Global, matches: &ArgMatches<'_>) -> Result<(Orders, Orders)
 }
 
 // What the words of a run say, with these lists of orders. Values are as `clap` has checked them.
-fn words_with(matches: &ArgMatches<'_>, lose: Orders, restart: Orders) -> RunWords
-    ensures words { (w : RunWords) → AreOptionsOf (rows_of (found_of matches.now)) w →
+fn args_with(matches: &ArgMatches<'_>, lose: Orders, restart: Orders) -> RunArgs
+    ensures args { (w : RunArgs) → AreOptionsOf (rows_of (found_of matches.now)) w →
         with_lists_of w result ≡ w }
     ensures lose { result.options.lose ≡ lose }
     ensures restart { result.options.restart ≡ restart }
@@ -274,7 +274,7 @@ fn words_with(matches: &ArgMatches<'_>, lose: Orders, restart: Orders) -> RunWor
         lose,
         restart,
     };
-    RunWords {
+    RunArgs {
         options,
         counted,
         progress: wants_progress(matches),
@@ -282,9 +282,9 @@ fn words_with(matches: &ArgMatches<'_>, lose: Orders, restart: Orders) -> RunWor
 }
 
 /// What the words of a run say.
-pub fn run_words(alloc: Global, matches: &ArgMatches<'_>) -> Result<RunWords, WordsError>
+pub fn run_args(alloc: Global, matches: &ArgMatches<'_>) -> Result<RunArgs, WordsError>
     requires { has_subcommand matches.now ≡ true }
-    ensures run { (w : RunWords) → IsRunOf (subcommand_rows_of matches.now) w →
+    ensures run { (w : RunArgs) → IsRunOf (subcommand_rows_of matches.now) w →
         IfOk result (λ v. with_lists_of w v ≡ w) }
     ensures orders { IfOk result (λ v. IfSome (subcommand_rows_of matches.now) (λ s.
         AreListed s.1 v.options.lose.items v.options.restart.items)) }
@@ -300,7 +300,7 @@ pub fn run_words(alloc: Global, matches: &ArgMatches<'_>) -> Result<RunWords, Wo
 {
     let (_, inner) = matches.subcommand().unwrap();
     match orders_of(alloc, inner) {
-        Ok((lose, restart)) => Ok(words_with(inner, lose, restart)),
+        Ok((lose, restart)) => Ok(args_with(inner, lose, restart)),
         Err(error) => Err(WordsError::Orders(error)),
     }
 }
@@ -354,27 +354,27 @@ fn run_listed<
 /// without one a failed read is answered exactly if a call of the reader failed (while failures can be counted).
 pub fn run_by<
     H: AllocGlobal + Clock + RandomSource + Threads + Wait + Sync,
-    T: Teller + Sync,
+    T: ProgressTeller + Sync,
     R: CountedRead,
     W: CountedWrite,
->(server: &Server<'_, H, T>, words: RunWords, reader: &mut R, writer: &mut W) -> Result<(), Fault>
-    ensures done { OnOk result (DoesJob words.options words.counted
+>(host: &Host<'_, H, T>, args: RunArgs, reader: &mut R, writer: &mut W) -> Result<(), Fault>
+    ensures done { OnOk result (DoesJob args.options args.counted
         (reads_of R.remaining R.failed_calls R.sure_calls reader.old reader.new)
         (writes_of W.contents W.failed_calls writer.old writer.new)) }
-    ensures fault { IfErr result (FailsRun words
+    ensures fault { IfErr result (FailsRun args
         (reads_of R.remaining R.failed_calls R.sure_calls reader.old reader.new)
         (writes_of W.contents W.failed_calls writer.old writer.new)) }
-    ensures few { words.counted ≡ true →
+    ensures few { args.counted ≡ true →
         ReadsFew (R.remaining reader.old) (R.remaining reader.new) }
 {
-    let rt = server.rt;
-    let options = &words.options;
-    let teller = server.teller.as_ref();
-    let Ok(gate) = TellingGate::new(rt.alloc(), rt, teller, options.parts) else {
+    let rt = host.rt;
+    let options = &args.options;
+    let teller = host.teller.as_ref();
+    let Ok(gate) = ProgressGate::new(rt.alloc(), rt, teller, options.parts) else {
         return Err(Fault::Gate);
     };
-    let state = server.random_state()?;
-    let answer = if words.counted {
+    let state = host.random_state()?;
+    let answer = if args.counted {
         let job = Job {
             rt,
             options,

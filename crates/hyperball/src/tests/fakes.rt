@@ -4,8 +4,8 @@
 ghost use Rattle.std.specs.Prelude.{◌≡◌, None};
 
 use super::{Flow, NO_MEMORY, Pieces};
-use crate::lines::News;
-use crate::progress::{LendTeller, Teller};
+use crate::lines::ProgressLine;
+use crate::progress::{LendTeller, ProgressTeller};
 use std::io;
 use std::io::{ErrorKind, Read, Write};
 use std::sync::atomic::{AtomicU32, Ordering};
@@ -219,8 +219,8 @@ impl Lines {
     }
 }
 
-impl<'a> Teller for &'a Lines {
-    fn tell(&self, _news: News) {
+impl<'a> ProgressTeller for &'a Lines {
+    fn tell(&self, _news: ProgressLine) {
         self.told.fetch_add(1, Ordering::SeqCst);
     }
 }

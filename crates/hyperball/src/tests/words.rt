@@ -1,10 +1,10 @@
 //! What words are read as, and the texts of faults.
 
 use super::*;
-use crate::cli::gather::GatherWords;
-use crate::cli::one_node::NodeWords;
-use crate::cli::run::RunWords;
-use crate::cli::{Wish, read_words};
+use crate::cli::gather::GatherArgs;
+use crate::cli::one_node::NodeArgs;
+use crate::cli::run::RunArgs;
+use crate::cli::{Subcommand, read_words};
 use crate::laws::{
     lines_of_progress, lists_of_orders, words_of_a_node, words_of_a_replay, words_of_a_run,
     words_of_no_command, words_of_no_node, words_of_no_progress, words_of_no_replay,
@@ -167,12 +167,12 @@ type Orders = &'static [(NodeId, u32)];
 /// What words are read as: a run has replicas, entries, keep and patience, and nodes that are lost or that start anew.
 enum Reading {
     Run(JobInput, (u8, u32, u32, u32), Orders, Orders),
-    Node(NodeWords),
-    Gather(GatherWords),
+    Node(NodeArgs),
+    Gather(GatherArgs),
 }
 
 /// Whether a run is to be so.
-fn runs_as(words: &RunWords, job: &JobInput, numbers: &(u8, u32, u32, u32)) -> bool {
+fn runs_as(words: &RunArgs, job: &JobInput, numbers: &(u8, u32, u32, u32)) -> bool {
     let options = &words.options;
     options.job() == job.options
         && words.counted == job.counted
@@ -185,15 +185,15 @@ fn runs_as(words: &RunWords, job: &JobInput, numbers: &(u8, u32, u32, u32)) -> b
 }
 
 /// Whether words are read so.
-fn is_read_as(wish: &Wish, reading: &Reading) -> bool {
-    match (wish, reading) {
-        (Wish::Run(words), Reading::Run(job, numbers, lost, restarted)) => {
+fn is_read_as(subcommand: &Subcommand, reading: &Reading) -> bool {
+    match (subcommand, reading) {
+        (Subcommand::Run(words), Reading::Run(job, numbers, lost, restarted)) => {
             runs_as(words, job, numbers)
                 && words.options.lose.as_slice() == *lost
                 && words.options.restart.as_slice() == *restarted
         }
-        (Wish::Node(words), Reading::Node(wanted)) => words == wanted,
-        (Wish::Gather(words), Reading::Gather(wanted)) => words == wanted,
+        (Subcommand::Node(words), Reading::Node(wanted)) => words == wanted,
+        (Subcommand::Gather(words), Reading::Gather(wanted)) => words == wanted,
         _ => false,
     }
 }
@@ -201,7 +201,7 @@ fn is_read_as(wish: &Wish, reading: &Reading) -> bool {
 /// Whether these words say so.
 fn say(alloc: Global, words: &[String], reading: &Reading) -> bool {
     match read_words(alloc, words) {
-        Ok(wish) => is_read_as(&wish, reading),
+        Ok(subcommand) => is_read_as(&subcommand, reading),
         Err(_) => false,
     }
 }
@@ -249,7 +249,7 @@ static READINGS: [(&str, Reading); 8] = [
     ),
     (
         "hyperball node",
-        Reading::Node(NodeWords {
+        Reading::Node(NodeArgs {
             job: USUAL_JOB,
             part: 0,
             progress: false,
@@ -257,7 +257,7 @@ static READINGS: [(&str, Reading); 8] = [
     ),
     (
         "hyperball node --part 3",
-        Reading::Node(NodeWords {
+        Reading::Node(NodeArgs {
             job: USUAL_JOB,
             part: 3,
             progress: false,
@@ -265,7 +265,7 @@ static READINGS: [(&str, Reading); 8] = [
     ),
     (
         "hyperball node --progress --part 3",
-        Reading::Node(NodeWords {
+        Reading::Node(NodeArgs {
             job: USUAL_JOB,
             part: 3,
             progress: true,
@@ -273,21 +273,21 @@ static READINGS: [(&str, Reading); 8] = [
     ),
     (
         "hyperball gather",
-        Reading::Gather(GatherWords {
+        Reading::Gather(GatherArgs {
             job: USUAL_JOB,
             progress: false,
         }),
     ),
     (
         "hyperball gather --progress",
-        Reading::Gather(GatherWords {
+        Reading::Gather(GatherArgs {
             job: USUAL_JOB,
             progress: true,
         }),
     ),
     (
         "hyperball node --large",
-        Reading::Node(NodeWords {
+        Reading::Node(NodeArgs {
             job: LARGE_JOB,
             part: 0,
             progress: false,
@@ -295,7 +295,7 @@ static READINGS: [(&str, Reading); 8] = [
     ),
     (
         "hyperball gather --large --threads 3",
-        Reading::Gather(GatherWords {
+        Reading::Gather(GatherArgs {
             job: LARGE_SHARED_JOB,
             progress: false,
         }),

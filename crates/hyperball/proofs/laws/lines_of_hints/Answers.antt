@@ -1,4 +1,4 @@
-use Rattle.hyperball.proofs.TellingLemmas.{hint_is}
+use Rattle.hyperball.proofs.ProgressLemmas.{hint_is}
 use Rattle.hyperball.proofs.laws.lines_of_hints.Goals as goal
 
 pub returns : goal.returns

@@ -1,4 +1,4 @@
-use Rattle.hyperball.proofs.TellingLemmas.{line_is}
+use Rattle.hyperball.proofs.ProgressLemmas.{line_is}
 use Rattle.hyperball.proofs.laws.lines_of_progress.Goals as goal
 
 pub returns : goal.returns

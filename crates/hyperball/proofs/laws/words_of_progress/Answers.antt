@@ -3,10 +3,10 @@ use Rattle.std.specs.Prelude.{MatchOption, None, Some}
 use Rattle.clap.specs.Words.{Row, Text, subcommand_of}
 use Rattle.clap.proofs.OnLiterals.{clap_on_literals}
 use Rattle.hyperball.specs.CommandLine.{gather_app, hyperball_app, node_app, replay_app, run_app}
-use Rattle.hyperball.specs.Wishes.{IsWish}
+use Rattle.hyperball.specs.Subcommands.{IsSubcommand}
 use Rattle.hyperball.specs.Words.{AsksProgress, GivesProgress, HasFaults, flag_text}
-use Rattle.hyperball.specs.declared.cli.Wish.{Wish}
-use Rattle.hyperball.specs.declared.cli.Wish.TheVariants as wish
+use Rattle.hyperball.specs.declared.cli.Subcommand.{Subcommand}
+use Rattle.hyperball.specs.declared.cli.Subcommand.TheVariants as subcommand
 use Rattle.hyperball.proofs.NameLemmas.{of_names, some_parsers}
 use Rattle.hyperball.proofs.laws.words_of_progress.Goals as goal
 
@@ -62,11 +62,11 @@ never_both words name rows accepted is asked plain =
     (subst (λ (sub : Option (Text × List Row)). GivesProgress sub false) is (plain.flag some_parsers (refl, refl) none))
 
 -- so it is of each command
-wish_once : (words : List Text) (x : Wish) → IsWish words x → AsksProgress words true → AsksProgress words false → ⊥
-wish_once words (wish.Run w) is asked plain = let command = is.command some_parsers (refl, refl) in never_both _ _ command.0 is.accepted command.1 asked plain
-wish_once words (wish.Replay w) is asked plain = let command = is.command some_parsers (refl, refl) in never_both _ _ command.0 is.accepted command.1 asked plain
-wish_once words (wish.Node w) is asked plain = let command = is.command some_parsers (refl, refl) in never_both _ _ command.0 is.accepted command.1 asked plain
-wish_once words (wish.Gather w) is asked plain = let command = is.command some_parsers (refl, refl) in never_both _ _ command.0 is.accepted command.1 asked plain
+wish_once : (words : List Text) (x : Subcommand) → IsSubcommand words x → AsksProgress words true → AsksProgress words false → ⊥
+wish_once words (subcommand.Run w) is asked plain = let command = is.command some_parsers (refl, refl) in never_both _ _ command.0 is.accepted command.1 asked plain
+wish_once words (subcommand.Replay w) is asked plain = let command = is.command some_parsers (refl, refl) in never_both _ _ command.0 is.accepted command.1 asked plain
+wish_once words (subcommand.Node w) is asked plain = let command = is.command some_parsers (refl, refl) in never_both _ _ command.0 is.accepted command.1 asked plain
+wish_once words (subcommand.Gather w) is asked plain = let command = is.command some_parsers (refl, refl) in never_both _ _ command.0 is.accepted command.1 asked plain
 
 pub returns-clause-one : goal.returns-clause-one
 returns-clause-one c = wish_once

@@ -1,27 +1,27 @@
 use Rattle.std.proofs.Common.{ap, arith, inl, inr, refl}
 use Rattle.std.specs.Prelude.{Err}
-use Rattle.hyperball.specs.Ends.{FailsBy, FailsWish}
+use Rattle.hyperball.specs.Ends.{FailsBy, FailsSubcommand}
 use Rattle.hyperball.specs.Streams.{Reads, Writes, reads_of, writes_of}
-use Rattle.hyperball.specs.declared.cli.Wish.{Wish}
-use Rattle.hyperball.specs.declared.cli.Wish.TheVariants as wish
+use Rattle.hyperball.specs.declared.cli.Subcommand.{Subcommand}
+use Rattle.hyperball.specs.declared.cli.Subcommand.TheVariants as subcommand
 use Rattle.hyperball.specs.declared.fault.Fault.{Fault}
 use Rattle.hyperball.specs.declared.fault.Fault.TheVariants as fault
-use Rattle.hyperball.proofs.TellingLemmas.{tells_none}
+use Rattle.hyperball.proofs.ProgressLemmas.{tells_none}
 use Rattle.hyperball.proofs.WholeLemmas.{none_read}
-use Rattle.hyperball.proofs.WishLemmas.{accepted_mistake, accepted_undone, says_done, says_reads, wish_leaves}
+use Rattle.hyperball.proofs.SubcommandLemmas.{accepted_mistake, accepted_undone, says_done, says_reads, subcommand_leaves}
 use Rattle.hyperball.proofs.serve.serve.Goals as goal
 
--- a wish that fails with some fault fails
-fails_wish : (x : Wish) (r : Reads) (w : Writes) (f : Fault) → FailsBy x r w f → FailsWish x r w
-fails_wish (wish.Run v) r w f fails = inr (record { fault = f; due = fails })
-fails_wish (wish.Replay v) r w fault.Random none = inl none
-fails_wish (wish.Replay v) r w f fails = inr (record { fault = f; due = fails })
-fails_wish (wish.Node v) r w fault.Random none = inl none
-fails_wish (wish.Node v) r w (fault.Node e) fails = inr (record { fault = e; due = fails })
-fails_wish (wish.Node v) r w f fails = absurd fails
-fails_wish (wish.Gather v) r w fault.Random none = inl none
-fails_wish (wish.Gather v) r w (fault.Gather e) fails = inr (record { fault = e; due = fails })
-fails_wish (wish.Gather v) r w f fails = absurd fails
+-- a subcommand that fails with some fault fails
+fails_subcommand : (x : Subcommand) (r : Reads) (w : Writes) (f : Fault) → FailsBy x r w f → FailsSubcommand x r w
+fails_subcommand (subcommand.Run v) r w f fails = inr (record { fault = f; due = fails })
+fails_subcommand (subcommand.Replay v) r w fault.Random none = inl none
+fails_subcommand (subcommand.Replay v) r w f fails = inr (record { fault = f; due = fails })
+fails_subcommand (subcommand.Node v) r w fault.Random none = inl none
+fails_subcommand (subcommand.Node v) r w (fault.Node e) fails = inr (record { fault = e; due = fails })
+fails_subcommand (subcommand.Node v) r w f fails = absurd fails
+fails_subcommand (subcommand.Gather v) r w fault.Random none = inl none
+fails_subcommand (subcommand.Gather v) r w (fault.Gather e) fails = inr (record { fault = e; due = fails })
+fails_subcommand (subcommand.Gather v) r w f fails = absurd fails
 
 pub returns-in-Ok-answer-clause-asked : goal.returns-in-Ok-answer-clause-asked
 returns-in-Ok-answer-clause-asked g c = λ a is.
@@ -29,9 +29,9 @@ returns-in-Ok-answer-clause-asked g c = λ a is.
     let w : Writes = writes_of g.W.Write.contents g.W.CountedWrite.failed_calls c.args.writer.now c.fulfil-answer.new.writer in
     let says = c.in-Ok.ensures.asked a is in
     record {
-      done = λ zero. says_done a c.in-Ok.wish r w says c.in-Ok-answer.ensures.done;
+      done = λ zero. says_done a c.in-Ok.subcommand r w says c.in-Ok-answer.ensures.done;
       fault = λ one. absurd (omega (arith, one));
-      few = λ all. c.in-Ok-answer.ensures.few (says_reads a c.in-Ok.wish says all);
+      few = λ all. c.in-Ok-answer.ensures.few (says_reads a c.in-Ok.subcommand says all);
     }
 
 pub returns-in-Err-answer-clause-asked : goal.returns-in-Err-answer-clause-asked
@@ -41,15 +41,15 @@ returns-in-Err-answer-clause-asked g c = λ a is.
     let says = c.in-Ok.ensures.asked a is in
     record {
       done = λ zero. absurd (omega (arith, zero, c.tell_fault.ensures));
-      fault = λ one. inr (record { found = c.in-Ok.wish; says = says; orders = c.in-Ok.ensures.found.orders; fails = fails_wish c.in-Ok.wish r w c.in-Err-answer.fault c.in-Err-answer.ensures.fault });
-      few = λ all. c.in-Err-answer.ensures.few (says_reads a c.in-Ok.wish says all);
+      fault = λ one. inr (record { found = c.in-Ok.subcommand; says = says; orders = c.in-Ok.ensures.found.orders; fails = fails_subcommand c.in-Ok.subcommand r w c.in-Err-answer.fault c.in-Err-answer.ensures.fault });
+      few = λ all. c.in-Err-answer.ensures.few (says_reads a c.in-Ok.subcommand says all);
     }
 
 pub returns-in-Err-answer-clause-one : goal.returns-in-Err-answer-clause-one
 returns-in-Err-answer-clause-one g c = λ one.
     let r : Reads = reads_of g.R.Read.remaining g.R.CountedRead.failed_calls g.R.CountedRead.sure_calls c.args.reader.now c.fulfil-answer.new.reader in
     let w : Writes = writes_of g.W.Write.contents g.W.CountedWrite.failed_calls c.args.writer.now c.fulfil-answer.new.writer in
-    wish_leaves _ c.in-Ok.wish r w c.in-Ok.ensures.found.asks (fails_wish c.in-Ok.wish r w c.in-Err-answer.fault c.in-Err-answer.ensures.fault)
+    subcommand_leaves _ c.in-Ok.subcommand r w c.in-Ok.ensures.found.asks (fails_subcommand c.in-Ok.subcommand r w c.in-Err-answer.fault c.in-Err-answer.ensures.fault)
 
 pub returns-in-Err-clause-asked : goal.returns-in-Err-clause-asked
 returns-in-Err-clause-asked g c = λ a is.

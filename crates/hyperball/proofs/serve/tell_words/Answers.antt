@@ -18,7 +18,7 @@ alone : (k x : ErrorKind) → IsAmong k (x ∷ []) → k ≡ x
 alone k x (inl e) = e
 alone k x (inr h) = absurd h
 
--- lack of memory, or one of some mistakes, is no wish for help
+-- lack of memory, or one of some mistakes, is no subcommand for help
 no_help : (kinds : List ErrorKind) (k : ErrorKind) → AllByRecursion IsMistake kinds → (k ≡ kind.OutOfMemory) ⊎ IsAmong k kinds → (k ≢ kind.DisplayHelp) × (k ≢ kind.DisplayVersion)
 no_help kinds k all (inl e) = (λ is. absurd (cc), λ is. absurd (cc))
 no_help kinds k all (inr h) = (among k kinds h all).1

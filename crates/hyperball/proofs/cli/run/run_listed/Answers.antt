@@ -7,7 +7,7 @@ use Rattle.hyperball.specs.Streams.{Reads, Writes, reads_of, writes_of}
 use Rattle.hyperball.specs.Whole.{Parts}
 use Rattle.hyperball.proofs.RefusalLemmas.{lacking, listed_fails, reports_listed, same_error, unread}
 use Rattle.hyperball.proofs.WholeLemmas.{IsRead, read_well, seen, told_of}
-use Rattle.hyperball.proofs.WishLemmas.{keeps_same}
+use Rattle.hyperball.proofs.SubcommandLemmas.{keeps_same}
 use Rattle.hyperball.proofs.cli.run.run_listed.Goals as goal
 
 pub returns-in_err-input-clause-fault : goal.returns-in_err-input-clause-fault

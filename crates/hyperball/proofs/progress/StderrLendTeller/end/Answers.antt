@@ -1,7 +1,7 @@
 use Rattle.std.proofs.Common.{subst, sym}
 use Rattle.std.specs.Prelude.{None}
 use Rattle.hyperball.specs.Progress.{TellsProgress}
-use Rattle.hyperball.proofs.TellingLemmas.{tells_none}
+use Rattle.hyperball.proofs.ProgressLemmas.{tells_none}
 use Rattle.hyperball.proofs.progress.StderrLendTeller.end.Goals as goal
 
 pub returns : goal.returns

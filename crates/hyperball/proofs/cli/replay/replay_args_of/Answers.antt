@@ -3,14 +3,14 @@ use Rattle.std.specs.Str.Parse.{ExplainsUnsignedError, HasUnsignedDigitsIfOk}
 use Rattle.clap.specs.Words.{found_of}
 use Rattle.job.specs.declared.input.JobInput.{JobInput}
 use Rattle.hyperball.specs.Replaying.{replay_input}
-use Rattle.hyperball.proofs.OptionLemmas.{number_is, same_replay_words}
-use Rattle.hyperball.proofs.cli.replay.replay_words_of.Goals as goal
+use Rattle.hyperball.proofs.OptionLemmas.{number_is, same_replay_args}
+use Rattle.hyperball.proofs.cli.replay.replay_args_of.Goals as goal
 
 pub returns-clause-options : goal.returns-clause-options
 returns-clause-options c = λ w h.
     let f = found_of c.args.matches.now in
     let job : c.job_input_of-counted.result ≡ replay_input w = c.job_input_of-counted.ensures (replay_input w) h.job refl refl in
-    same_replay_words _ _ _ _ _ _ _ _ _ w
+    same_replay_args _ _ _ _ _ _ _ _ _ w
     (ap (λ (o : JobInput). o.options.log2m) job)
     (ap (λ (o : JobInput). o.options.seed) job)
     (ap (λ (o : JobInput). o.options.parts) job)

@@ -3,15 +3,15 @@ use Rattle.std.specs.Str.Parse.{ExplainsUnsignedError, HasUnsignedDigitsIfOk}
 use Rattle.clap.specs.Words.{found_of}
 use Rattle.job.specs.declared.input.JobInput.{JobInput}
 use Rattle.hyperball.specs.Words.{run_input}
-use Rattle.hyperball.proofs.OptionLemmas.{number_is, same_words}
-use Rattle.hyperball.proofs.cli.run.words_with.Goals as goal
+use Rattle.hyperball.proofs.OptionLemmas.{number_is, same_args}
+use Rattle.hyperball.proofs.cli.run.args_with.Goals as goal
 
-pub returns-clause-words : goal.returns-clause-words
-returns-clause-words c = λ w h.
+pub returns-clause-args : goal.returns-clause-args
+returns-clause-args c = λ w h.
     let f = found_of c.args.matches.now in
     let job : c.job_input_of-counted.result ≡ run_input w = c.job_input_of-counted.ensures (run_input w) h.job (c.wants_large.ensures w.options.large h.large)
     (c.unwrap_or-threads.ensures ∙ number_is (λ t r. ExplainsUnsignedError 10 t r) (λ t r. HasUnsignedDigitsIfOk t r) f (codes "threads") 0 16 w.options.threads c.get_one.result c.get_one.ensures.none c.get_one.ensures.value h.threads) in
-    same_words _ _ _ _ _ _ _ _ _ _ _ _ _ _ w
+    same_args _ _ _ _ _ _ _ _ _ _ _ _ _ _ w
     (ap (λ (o : JobInput). o.options.log2m) job)
     (ap (λ (o : JobInput). o.options.seed) job)
     (ap (λ (o : JobInput). o.options.parts) job)

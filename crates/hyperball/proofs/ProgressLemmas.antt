@@ -7,12 +7,12 @@ use Rattle.std.proofs.lemmas.List.Elements.{All-append, All-cons, All-nil}
 use Rattle.ball_model.specs.WorldText.{node_word}
 use Rattle.node.specs.Stream.{HasNoEnd}
 use Rattle.hyperball.specs.Hints.{hint_text, line_of_hint}
-use Rattle.hyperball.specs.Progress.{TellsProgress, IsLineBehind, line_of, mark_of_program, news_text, news_line}
+use Rattle.hyperball.specs.Progress.{TellsProgress, IsLineBehind, line_of, mark_of_program, progress_text, progress_line}
 use Rattle.ball_model.specs.declared.names.NodeId.{NodeId}
 use Rattle.hyperball.specs.declared.hints.Hint.{Hint}
 use Rattle.hyperball.specs.declared.hints.Hint.TheVariants as hint
-use Rattle.hyperball.specs.declared.lines.News.{News}
-use Rattle.hyperball.specs.declared.lines.News.TheVariants as line
+use Rattle.hyperball.specs.declared.lines.ProgressLine.{ProgressLine}
+use Rattle.hyperball.specs.declared.lines.ProgressLine.TheVariants as line
 
 -- what keeps what stood there tells no line
 appends-none : (old new : Option (List ℕ)) → Keeps old new → Appends old new []
@@ -26,29 +26,29 @@ tells_none old new keeps = record { lines = []; appended = appends-none old new 
 -- ---- lines as they are written, piece by piece
 
 pub read_text : (records vertices : ℕ) →
-    news_line (line.Read records vertices) ≡
+    progress_line (line.Read records vertices) ≡
     codes "hyperball: " ++ (decimal records ++ (codes " records and " ++ (decimal vertices ++ codes " vertices are read")))
 read_text records vertices = search (rules, append_assoc)
 
 pub log2m_text : (log2m : ℕ) →
-    news_line (line.NoLog2m log2m) ≡ codes "hyperball: no plan has log2m " ++ (decimal log2m ++ codes " (4 to 10 are allowed): the job will be refused once the edge list is read")
+    progress_line (line.NoLog2m log2m) ≡ codes "hyperball: no plan has log2m " ++ (decimal log2m ++ codes " (4 to 10 are allowed): the job will be refused once the edge list is read")
 log2m_text log2m = search (rules, append_assoc)
 
 pub parts_text : (parts : ℕ) →
-    news_line (line.NoParts parts) ≡ codes "hyperball: no plan has parts " ++ (decimal parts ++ codes " (1 to 64 are allowed): the job will be refused once the edge list is read")
+    progress_line (line.NoParts parts) ≡ codes "hyperball: no plan has parts " ++ (decimal parts ++ codes " (1 to 64 are allowed): the job will be refused once the edge list is read")
 parts_text parts = search (rules, append_assoc)
 
 pub limit_text : (limit : ℕ) →
-    news_line (line.NoLimit limit) ≡ codes "hyperball: no plan has limit " ++ (decimal limit ++ codes " (1 to 4096 are allowed): the job will be refused once the edge list is read")
+    progress_line (line.NoLimit limit) ≡ codes "hyperball: no plan has limit " ++ (decimal limit ++ codes " (1 to 4096 are allowed): the job will be refused once the edge list is read")
 limit_text limit = search (rules, append_assoc)
 
 pub superstep_text : (superstep changed vertices : ℕ) →
-    news_line (line.Superstep superstep changed vertices) ≡
+    progress_line (line.Superstep superstep changed vertices) ≡
     codes "hyperball: superstep " ++ (decimal superstep ++ (codes ", " ++ (decimal changed ++ (codes " of " ++ (decimal vertices ++ codes " vertices changed")))))
 superstep_text superstep changed vertices = search (rules, append_assoc)
 
 pub close_text : (node : NodeId) (superstep changed vertices : ℕ) →
-    news_line (line.Close node superstep changed vertices) ≡
+    progress_line (line.Close node superstep changed vertices) ≡
     codes "hyperball: node "
     ++ (decimal node.part ++ (codes "." ++ (decimal node.replica ++ (codes " at superstep " ++ (decimal superstep
     ++ (codes ", " ++ (decimal changed ++ (codes " of its " ++ (decimal vertices ++ codes " vertices changed")))))))))
@@ -119,33 +119,33 @@ changed-no_end a of_all changed vertices h is =
 foretold-no_end : (a : List ℕ) (n : ℕ) (b : List ℕ) → seen_no_end a ≡ true → seen_no_end b ≡ true → HasNoEnd (a ++ decimal n ++ b)
 foretold-no_end a n b h k = joined (a ++ decimal n) b (joined a (decimal n) (seen a h) (decimal-no_end n)) (seen b k)
 
-news-no_end : (news : News) → HasNoEnd (news_text news)
-news-no_end (line.NoLog2m log2m) = foretold-no_end (codes "no plan has log2m ") log2m (codes " (4 to 10 are allowed): the job will be refused once the edge list is read") refl refl
-news-no_end (line.NoParts parts) = foretold-no_end (codes "no plan has parts ") parts (codes " (1 to 64 are allowed): the job will be refused once the edge list is read") refl refl
-news-no_end (line.NoLimit limit) = foretold-no_end (codes "no plan has limit ") limit (codes " (1 to 4096 are allowed): the job will be refused once the edge list is read") refl refl
-news-no_end (line.Reading records) = joined (decimal records) (codes " records are read so far") (decimal-no_end records) (seen (codes " records are read so far") refl)
-news-no_end (line.Read records vertices) =
+progress-no_end : (said : ProgressLine) → HasNoEnd (progress_text said)
+progress-no_end (line.NoLog2m log2m) = foretold-no_end (codes "no plan has log2m ") log2m (codes " (4 to 10 are allowed): the job will be refused once the edge list is read") refl refl
+progress-no_end (line.NoParts parts) = foretold-no_end (codes "no plan has parts ") parts (codes " (1 to 64 are allowed): the job will be refused once the edge list is read") refl refl
+progress-no_end (line.NoLimit limit) = foretold-no_end (codes "no plan has limit ") limit (codes " (1 to 4096 are allowed): the job will be refused once the edge list is read") refl refl
+progress-no_end (line.Reading records) = joined (decimal records) (codes " records are read so far") (decimal-no_end records) (seen (codes " records are read so far") refl)
+progress-no_end (line.Read records vertices) =
     joined (decimal records ++ codes " records and " ++ decimal vertices) (codes " vertices are read")
     (numbered (decimal records) (codes " records and ") vertices (decimal-no_end records) refl)
     (seen (codes " vertices are read") refl)
-news-no_end line.Start = seen (codes "the supersteps begin") refl
-news-no_end (line.Superstep superstep changed vertices) =
+progress-no_end line.Start = seen (codes "the supersteps begin") refl
+progress-no_end (line.Superstep superstep changed vertices) =
     changed-no_end (codes "superstep " ++ decimal superstep) (codes " of ") changed vertices
     (numbered [] (codes "superstep ") superstep (All-nil (λ b. b ≢ 10)) refl) refl
-news-no_end (line.Close node superstep changed vertices) =
+progress-no_end (line.Close node superstep changed vertices) =
     let name : List ℕ = codes "node " ++ node_word node in
     changed-no_end (name ++ codes " at superstep " ++ decimal superstep) (codes " of its ") changed vertices
     (numbered name (codes " at superstep ") superstep (joined (codes "node ") (node_word node) (seen (codes "node ") refl) (node-no_end node)) refl) refl
-news-no_end line.Report = seen (codes "the report is written") refl
-news-no_end line.Answers = seen (codes "the answers are written") refl
-news-no_end line.Commands = seen (codes "the commands are answered") refl
+progress-no_end line.Report = seen (codes "the report is written") refl
+progress-no_end line.Answers = seen (codes "the answers are written") refl
+progress-no_end line.Commands = seen (codes "the commands are answered") refl
 
 -- each line of progress begins so, and has one LF, at its end
-pub line_is : (news : News) → IsLineBehind mark_of_program (line_of news)
-line_is news = record {
-  rest = news_text news;
+pub line_is : (said : ProgressLine) → IsLineBehind mark_of_program (line_of said)
+line_is said = record {
+  rest = progress_text said;
   is = refl;
-  one_line = joined mark_of_program (news_text news) (seen mark_of_program refl) (news-no_end news);
+  one_line = joined mark_of_program (progress_text said) (seen mark_of_program refl) (progress-no_end said);
 }
 
 hint-no_end : (said : Hint) → HasNoEnd (hint_text said)

@@ -1,7 +1,7 @@
 use Rattle.std.proofs.Common.{rules, sym}
 use Rattle.std.proofs.Output.{has_written_of_eq}
-use Rattle.hyperball.proofs.TellingLemmas.{close_text, limit_text, log2m_text, parts_text, read_text, superstep_text}
-use Rattle.hyperball.proofs.lines.NewsDisplay.fmt.Goals as goal
+use Rattle.hyperball.proofs.ProgressLemmas.{close_text, limit_text, log2m_text, parts_text, read_text, superstep_text}
+use Rattle.hyperball.proofs.lines.ProgressLineDisplay.fmt.Goals as goal
 
 pub returns-in-NoLog2m-clause-writes : goal.returns-in-NoLog2m-clause-writes
 returns-in-NoLog2m-clause-writes g c = λ plain ok.
