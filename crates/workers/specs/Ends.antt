@@ -148,5 +148,6 @@ fault_unless true e = None
 fault_unless false e = Some e
 
 -- the first fault of all nodes, if some partition has no node that has reached the end
-abbrev pub fault_in : {V : Type 0} → (V → List (Result NodeEnd NodeError)) → List V → Option RunError
+abbrev pub fault_in : {V : Type 0} → (V → List (Result NodeEnd NodeError)) → List V →
+    Option RunError
 fault_in items all = fault_unless (each_has_done items all) (first_fault items all)

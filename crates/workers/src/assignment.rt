@@ -8,15 +8,15 @@ use std::snapshot::Snapshot;
 use std::thread::Promise;
 
 /// What a node's thread gives.
-pub type NodeResult = Result<NodeEnd, NodeError>;
+pub(crate) type NodeResult = Result<NodeEnd, NodeError>;
 
 /// A node of a job, and what is asked of its run.
 #[derive(Drop)]
-pub struct Assignment {
-    pub graph: Snapshot<Graph>,
-    pub plan: Snapshot<Plan>,
-    pub options: Snapshot<RunOptions>,
-    pub node: NodeId,
+pub(crate) struct Assignment {
+    pub(crate) graph: Snapshot<Graph>,
+    pub(crate) plan: Snapshot<Plan>,
+    pub(crate) options: Snapshot<RunOptions>,
+    pub(crate) node: NodeId,
 }
 
 impl Promise<NodeResult> for Assignment {

@@ -24,19 +24,19 @@ use std::alloc::{AllocError, Global};
 
 /// A node that waited in vain, and for what.
 #[derive(Clone, Copy)]
-pub struct Waiting {
-    pub node: NodeId,
-    pub superstep: u32,
-    pub source: u16,
+pub(crate) struct Waiting {
+    pub(crate) node: NodeId,
+    pub(crate) superstep: u32,
+    pub(crate) source: u16,
 }
 
 /// What is noted of the nodes of a job that did not reach the end.
 #[derive(Clone, Copy)]
-pub struct Faults {
-    pub lost: Option<u16>,
-    pub full: bool,
-    pub memory: bool,
-    pub starved: Option<Waiting>,
+pub(crate) struct Faults {
+    pub(crate) lost: Option<u16>,
+    pub(crate) full: bool,
+    pub(crate) memory: bool,
+    pub(crate) starved: Option<Waiting>,
 }
 
 impl Faults {
@@ -129,7 +129,7 @@ fn note_lost(faults: &mut Faults, p: u16)
 }
 
 /// Whether a node has reached the end of the run.
-pub fn is_done(end: &NodeResult) -> bool
+pub(crate) fn is_done(end: &NodeResult) -> bool
     ensures { result ≡ is_done end.now }
 {
     matches!(end, Ok(NodeEnd::Done(_)))
@@ -216,7 +216,10 @@ fn collect_done(alloc: Global, ends: Vec<Vec<NodeResult>>) -> Result<Vec<Replica
 
 /// The replica of each partition, by the ends of its nodes: that of the first node that is done. If a partition has
 /// none, the error is the first fault of all nodes; else it is `Memory`, if that is refused here.
-pub fn done_replicas(alloc: Global, ends: Vec<Vec<NodeResult>>) -> Result<Vec<Replica>, RunError>
+pub(crate) fn done_replicas(
+    alloc: Global,
+    ends: Vec<Vec<NodeResult>>,
+) -> Result<Vec<Replica>, RunError>
     requires few { All (λ own. length own.items ≤ MOST_REPLICAS) ends.items }
     requires parts { length ends.items ≤ most_parts }
     ensures done { (j : Job) (o : RunOptions) → AreEnds (λ own. own.items) j o ends.items →

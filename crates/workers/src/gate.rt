@@ -50,13 +50,13 @@ impl Gate for OpenGate {
 
 /// A gate that watches nothing: as a [`Gate`] it is the one inside, and as a [`Watch`] it does nothing.
 #[derive(Clone, Copy, Debug)]
-pub struct UnwatchedGate<'a, G> {
+pub(crate) struct UnwatchedGate<'a, G> {
     gate: &'a G,
 }
 
 impl<'a, G: Gate> UnwatchedGate<'a, G> {
     /// The gate inside, which does not hear how the run gets on.
-    pub fn new(gate: &'a G) -> UnwatchedGate<'a, G> {
+    pub(crate) fn new(gate: &'a G) -> UnwatchedGate<'a, G> {
         UnwatchedGate { gate }
     }
 }
@@ -130,7 +130,7 @@ impl<'a, C: Clock> Gate for SleepingGate<'a, C> {
 }
 
 /// The place of a node among all that a run may have.
-pub fn place_of(node: NodeId) -> usize
+pub(crate) fn place_of(node: NodeId) -> usize
     ensures { result ≡ place_at node.part node.replica }
 {
     usize::from(node.part) * usize::from(MOST_REPLICAS) + usize::from(node.replica)

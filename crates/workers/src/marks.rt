@@ -9,7 +9,7 @@ use std::alloc::{AllocError, Global};
 use std::marker::Model;
 
 /// What a seat knows, as clauses see it: the places of words that are marked. No value of it is made.
-pub struct Known {}
+pub(crate) struct Known {}
 
 impl Model for Known {
     ghost use Rattle.std.specs.Prelude.{ℕ, List, []};
@@ -20,7 +20,7 @@ impl Model for Known {
 }
 
 /// A word is marked if some seat knows that it is, and no other.
-pub struct Marking;
+pub(crate) struct Marking;
 
 impl TableRule<(), Known, usize> for Marking {
     ghost use Rattle.std.specs.Prelude.{[]};
@@ -32,7 +32,7 @@ impl TableRule<(), Known, usize> for Marking {
 }
 
 /// A seat comes to the table.
-pub struct Comes;
+pub(crate) struct Comes;
 
 impl Play<(), Known> for Comes {
     ghost use Rattle.workers.specs.Marks.{KnowsNothing};
@@ -41,7 +41,7 @@ impl Play<(), Known> for Comes {
 }
 
 /// A word is marked.
-pub struct Marks;
+pub(crate) struct Marks;
 
 impl Play<(), Known> for Marks {
     ghost use Rattle.workers.specs.Marks.{KnowsMark};
@@ -50,7 +50,7 @@ impl Play<(), Known> for Marks {
 }
 
 /// A word is looked at.
-pub struct LooksAt;
+pub(crate) struct LooksAt;
 
 impl Play<(), Known> for LooksAt {
     ghost use Rattle.workers.specs.Marks.{KnowsIfMarked};
@@ -59,11 +59,11 @@ impl Play<(), Known> for LooksAt {
 }
 
 /// What is known of the marks of a table. It has no bytes.
-pub type Look = Seat<(), Known>;
+pub(crate) type Look = Seat<(), Known>;
 
 /// Words that are marked one by one, shared without a lock. Contracts see which table it is, and how many words it has.
 #[derive(Drop)]
-pub struct Marked {
+pub(crate) struct Marked {
     table: Table<(), Known, usize, Marking, Global>,
 }
 
@@ -80,7 +80,7 @@ impl Model for Marked {
 
 impl Marked {
     /// So many words, none of which is marked. The error is that memory was refused.
-    pub fn new(alloc: Global, words: usize) -> Result<Marked, AllocError>
+    pub(crate) fn new(alloc: Global, words: usize) -> Result<Marked, AllocError>
         ensures { IfOk result (λ marked. marked.words ≡ words) }
     {
         let zeros = vec![in alloc; 0u64; words]?;
@@ -89,7 +89,7 @@ impl Marked {
     }
 
     /// Nothing is known.
-    pub fn look(&self) -> Look
+    pub(crate) fn look(&self) -> Look
         requires { 0 < self.now.words }
         ensures table { result.table_id ≡ self.now }
         ensures known { result.me ≡ ([], []) }
@@ -98,7 +98,7 @@ impl Marked {
     }
 
     /// Marks a word, of which it is known then.
-    pub fn mark(&self, look: &mut Look, word: usize)
+    pub(crate) fn mark(&self, look: &mut Look, word: usize)
         requires word { word < self.now.words }
         requires look { look.old.table_id ≡ self.now }
         ensures look { look.new.table_id ≡ look.old.table_id }
@@ -108,7 +108,7 @@ impl Marked {
     }
 
     /// Whether a word is marked, of which it is known if it is.
-    pub fn is_marked(&self, look: &mut Look, word: usize) -> bool
+    pub(crate) fn is_marked(&self, look: &mut Look, word: usize) -> bool
         requires word { word < self.now.words }
         requires look { look.old.table_id ≡ self.now }
         ensures look { look.new.table_id ≡ look.old.table_id }

@@ -82,7 +82,7 @@ fn orders_for(options: &RunOptions, node: NodeId) -> NodeOrders
 
 /// A node at its seat, with its part and its orders.
 #[derive(Drop)]
-struct Post {
+struct Seated {
     seat: Seat,
     part: ReadyPart,
     node: NodeId,
@@ -102,28 +102,28 @@ fn run_at<R: AllocGlobal + Threads + Wait + Sync, G: Gate + Watch>(
     board: &Board,
     gate: &G,
     running: &Running,
-    post: Post,
+    seated: Seated,
 ) -> Ended
-    requires seat { IsSeatOf board.now post.seat.caller.seen.job post.seat }
-    requires start { calls_by post.seat.caller.number post.seat.caller.seen ≡ [] }
-    requires job { IsJob post.seat.caller.seen.job }
-    requires node { post.node.part < post.seat.caller.seen.job.plan.parts }
-    requires part { post.part ≡ part_of post.seat.caller.seen.job post.node.part }
-    ensures orders { KeepsItsOrders post.seat.caller.seen.job post.node.part post.orders
+    requires seat { IsSeatOf board.now seated.seat.caller.seen.job seated.seat }
+    requires start { calls_by seated.seat.caller.number seated.seat.caller.seen ≡ [] }
+    requires job { IsJob seated.seat.caller.seen.job }
+    requires node { seated.node.part < seated.seat.caller.seen.job.plan.parts }
+    requires part { seated.part ≡ part_of seated.seat.caller.seen.job seated.node.part }
+    ensures orders { KeepsItsOrders seated.seat.caller.seen.job seated.node.part seated.orders
         result.end }
-    ensures ran { HasRun post.seat.caller.seen.job board.now.limit post.node.part post.orders
+    ensures ran { HasRun seated.seat.caller.seen.job board.now.limit seated.node.part seated.orders
         result.end }
     ensures told { is_some result.told ≡
-        is_early running.now.parts running.now.replicas post.node result.end }
+        is_early running.now.parts running.now.replicas seated.node result.end }
     ensures known { IfSome result.told (λ look.
-        look.me ≡ (place_at post.node.part post.node.replica ∷ [], [])) }
+        look.me ≡ (place_at seated.node.part seated.node.replica ∷ [], [])) }
 {
-    let Post {
+    let Seated {
         seat,
         part,
         node,
         orders,
-    } = post;
+    } = seated;
     let mut exchange = BoardExchange::new(board, seat);
     let gate = RunGate::new(gate, running);
     let worker = Worker {
@@ -204,23 +204,23 @@ impl<'a, R: AllocGlobal + Threads + Wait + Sync, G: Gate + Watch + Sync> Crew<'a
         let assigned = self.assignment(node);
         let (rt, board, gate, running) = (self.rt, self.board, self.gate, self.running);
         let orders = orders_for(self.options, node);
-        let post = Post {
+        let seated = Seated {
             seat,
             part,
             node,
             orders,
         };
         let work = move || -> NodeResult
-            requires seat { IsSeatOf board.now post.seat.caller.seen.job post.seat }
-            requires start { calls_by post.seat.caller.number post.seat.caller.seen ≡ [] }
-            requires job { IsJob post.seat.caller.seen.job }
-            requires node { post.node.part < post.seat.caller.seen.job.plan.parts }
-            requires part { post.part ≡ part_of post.seat.caller.seen.job post.node.part }
-            ensures orders { KeepsItsOrders post.seat.caller.seen.job post.node.part post.orders
-                result }
-            ensures ran { HasRun post.seat.caller.seen.job board.entry.now.limit post.node.part
-                post.orders result }
-        { run_at(rt, board, gate, running, post).end };
+            requires seat { IsSeatOf board.now seated.seat.caller.seen.job seated.seat }
+            requires start { calls_by seated.seat.caller.number seated.seat.caller.seen ≡ [] }
+            requires job { IsJob seated.seat.caller.seen.job }
+            requires node { seated.node.part < seated.seat.caller.seen.job.plan.parts }
+            requires part { seated.part ≡ part_of seated.seat.caller.seen.job seated.node.part }
+            ensures orders { KeepsItsOrders seated.seat.caller.seen.job seated.node.part
+                seated.orders result }
+            ensures ran { HasRun seated.seat.caller.seen.job board.entry.now.limit seated.node.part
+                seated.orders result }
+        { run_at(rt, board, gate, running, seated).end };
         match scope.spawn_with(assigned, work) {
             Ok(child) => Ok(child),
             Err(_) => Err(running.end(node, &Err(NodeError::Memory))),
@@ -404,7 +404,7 @@ fn run_nodes<'a, R: AllocGlobal + Threads + Wait + Sync, G: Gate + Watch + Sync>
 
 /// Runs all nodes of a job by the parts of its partitions, a thread each, and gives the replica of each partition at the
 /// end of the run: that of the first of its nodes that is done.
-pub fn run_job<'a, R: AllocGlobal + Threads + Wait + Sync, G: Gate + Watch + Sync>(
+pub(crate) fn run_job<'a, R: AllocGlobal + Threads + Wait + Sync, G: Gate + Watch + Sync>(
     rt: &'a R,
     graph: &'a Graph,
     planned: Planned,

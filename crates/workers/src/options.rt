@@ -47,7 +47,7 @@ pub struct RunOptions {
 }
 
 /// Whether a run of so many partitions and replicas has the node.
-pub fn is_named(parts: u16, replicas: u8, node: NodeId) -> bool
+pub(crate) fn is_named(parts: u16, replicas: u8, node: NodeId) -> bool
     ensures { result ≡ is_named parts replicas node }
 {
     node.part < parts && node.replica < replicas

@@ -19,7 +19,7 @@ use std::sync::atomic::AtomicU32;
 
 /// Which nodes have ended before the end of the run, and how many threads a node may use.
 #[derive(Drop)]
-pub struct Running {
+pub(crate) struct Running {
     marked: Marked,
     parts: u16,
     replicas: u8,
@@ -31,7 +31,7 @@ pub struct Running {
 impl Running {
     /// No node has ended, of so many partitions of so many replicas, each of which may use so many threads. The error is
     /// that memory was refused.
-    pub fn new(
+    pub(crate) fn new(
         alloc: Global,
         parts: u16,
         replicas: u8,
@@ -51,7 +51,7 @@ impl Running {
     }
 
     /// How many threads a node may use.
-    pub fn threads(&self) -> usize
+    pub(crate) fn threads(&self) -> usize
         ensures { result ≡ self.now.threads }
     {
         self.threads
@@ -59,7 +59,7 @@ impl Running {
 
     /// A node has ended so. If that is before the end of the run it is marked, and what is given back knows of this and of
     /// nothing else; None exactly if it has reached the end, or the run has no such node.
-    pub fn end(&self, node: NodeId, end: &NodeResult) -> Option<Look>
+    pub(crate) fn end(&self, node: NodeId, end: &NodeResult) -> Option<Look>
         ensures table { IfSome result (λ look. look.table_id ≡ self.now.marked) }
         ensures known { IfSome result (λ look.
             look.me ≡ (place_at node.part node.replica ∷ [], [])) }
@@ -75,7 +75,7 @@ impl Running {
 
     /// Not all nodes have threads, and there will be no further ones: nobody waits any more. What is given back knows of
     /// this, and of the end of no node.
-    pub fn stop(&self) -> Look
+    pub(crate) fn stop(&self) -> Look
         ensures table { result.table_id ≡ self.now.marked }
         ensures known { result.me ≡ (stop_place self.now.parts ∷ [], []) }
     {
@@ -110,7 +110,7 @@ impl Running {
 
     /// Whether a partition may still tell something. If it may not, what is given back knows that the run has stopped, or
     /// that all nodes of this partition have ended too early.
-    pub fn may_come(&self, source: u16) -> Result<(), Look>
+    pub(crate) fn may_come(&self, source: u16) -> Result<(), Look>
         ensures table { IfErr result (λ look. look.table_id ≡ self.now.marked) }
         ensures silent { IfErr result (λ look.
             IsSilent self.now.parts self.now.replicas source look.me.0) }
@@ -146,7 +146,7 @@ impl Running {
 }
 
 /// So many numbers that threads share, each of them 0. The error is that memory was refused.
-pub fn zeros(alloc: Global, count: usize) -> Result<Vec<AtomicU32>, AllocError> {
+pub(crate) fn zeros(alloc: Global, count: usize) -> Result<Vec<AtomicU32>, AllocError> {
     let mut numbers = Vec::with_capacity(alloc, count)?;
     for _ in 0..count {
         numbers.push(AtomicU32::new(0))?;
@@ -156,14 +156,14 @@ pub fn zeros(alloc: Global, count: usize) -> Result<Vec<AtomicU32>, AllocError> 
 
 /// The gate of a run: that of its caller, at which nobody waits for a partition whose nodes have all ended too early.
 #[derive(Clone, Copy)]
-pub struct RunGate<'a, G> {
+pub(crate) struct RunGate<'a, G> {
     gate: &'a G,
     running: &'a Running,
 }
 
 impl<'a, G> RunGate<'a, G> {
     /// The caller's gate, and what is known of the ends of the nodes.
-    pub fn new(gate: &'a G, running: &'a Running) -> RunGate<'a, G> {
+    pub(crate) fn new(gate: &'a G, running: &'a Running) -> RunGate<'a, G> {
         RunGate { gate, running }
     }
 }

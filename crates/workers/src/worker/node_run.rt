@@ -90,7 +90,7 @@ impl From<AllocError> for NodeError {
 
 /// How a node's replica fared: a [`NodeEnd`] without the replica, which is only lent until then.
 #[derive(Clone, Copy)]
-pub enum Fate {
+pub(crate) enum Fate {
     /// It has reached the end of the run.
     Done,
     /// It was to be lost.

@@ -36,7 +36,7 @@ use std::thread::Threads;
 
 /// How a superstep of a node ends.
 #[derive(Clone, Copy)]
-pub enum SuperstepEnd {
+pub(crate) enum SuperstepEnd {
     /// The replica is at another superstep.
     Next,
     /// The run is over.
@@ -47,7 +47,7 @@ pub enum SuperstepEnd {
 
 /// What a node has found of the others.
 #[derive(Clone, Copy)]
-pub enum Found {
+pub(crate) enum Found {
     /// Every batch of its superstep.
     Level,
     /// A snapshot of a further superstep, which it has taken over.
@@ -90,7 +90,7 @@ fn shared_batch(
 impl<'a, R: AllocGlobal + Threads + Wait + Sync, G: Gate + Watch> Worker<'a, R, G> {
     /// Takes over the snapshot that is kept for the replica's partition, if its superstep is `at_least` so much; and
     /// whether there is one.
-    pub fn catch_up<E: Exchange>(
+    pub(crate) fn catch_up<E: Exchange>(
         &self,
         exchange: &mut E,
         at_least: u32,
@@ -377,7 +377,7 @@ impl<'a, R: AllocGlobal + Threads + Wait + Sync, G: Gate + Watch> Worker<'a, R, 
     }
 
     /// A superstep of a node: it keeps what it has, tells all others, takes what they tell, and goes on.
-    pub fn run_superstep<E: Exchange>(
+    pub(crate) fn run_superstep<E: Exchange>(
         &self,
         exchange: &mut E,
         tables: &mut SharedTables,
