@@ -1,5 +1,5 @@
-//! The command line, read by `clap`: the subcommands, each in a file with its words and what they do, and what the words
-//! of a whole line ask for.
+//! The command line, read by `clap`: what its words ask for, and a file for each subcommand, with its arguments and what
+//! it does.
 
 ghost use Rattle.std.specs.Prelude.{◌≡◌, [], Err, IfErr, IfOk, IfSome, List, true};
 ghost use Rattle.clap.specs.Words.{App, has_subcommand, subcommand_rows_of, with_subcommand};
@@ -13,13 +13,13 @@ ghost use Rattle.hyperball.specs.Subcommands.{tells_progress};
 ghost use Rattle.hyperball.specs.Words.{FailsWith, HasFaults, ParsesTo, RefusesLists};
 ghost use Rattle.hyperball.specs.Words.{RefusesOrders, texts_of};
 
-pub mod arguments;
-pub mod gather;
-pub mod one_node;
-pub mod options;
-pub mod orders;
-pub mod replay;
-pub mod run;
+pub(crate) mod arguments;
+pub(crate) mod gather;
+pub(crate) mod one_node;
+pub(crate) mod options;
+pub(crate) mod orders;
+pub(crate) mod replay;
+pub(crate) mod run;
 
 use crate::cli::gather::{GatherArgs, gather_command, gather_args_of};
 use crate::cli::one_node::{NodeArgs, node_command, node_args_of};
@@ -65,7 +65,7 @@ fn add_command<'a>(
 }
 
 /// The program's command.
-pub fn command<'a>(alloc: Global) -> Result<Command<'a>, AllocError>
+pub(crate) fn command<'a>(alloc: Global) -> Result<Command<'a>, AllocError>
     ensures { IfOk result (λ c.
         (p : Parsers) × TakeNames p × IsApp (hyperball_app p) c) }
 {
@@ -87,7 +87,7 @@ fn parse<'a>(alloc: Global, words: &'a [String]) -> Result<ArgMatches<'a>, Error
 
 /// What a command line asks for.
 #[derive(Drop)]
-pub enum Subcommand {
+pub(crate) enum Subcommand {
     /// A run.
     Run(RunArgs),
     /// A replay.
@@ -98,7 +98,7 @@ pub enum Subcommand {
     Gather(GatherArgs),
 }
 
-// What is told of a job's numbers if no plan has them.
+// The line to report if no plan has a job's numbers.
 fn foretold_of(job: &JobOptions) -> Option<ProgressLine>
     ensures { IfSome result (Foretells job.now.log2m job.now.parts job.now.limit) }
 {
@@ -107,7 +107,7 @@ fn foretold_of(job: &JobOptions) -> Option<ProgressLine>
 
 impl Subcommand {
     /// Whether progress is to be reported.
-    pub fn tells_progress(&self) -> bool
+    pub(crate) fn tells_progress(&self) -> bool
         ensures { result ≡ tells_progress self.now }
     {
         match self {
@@ -118,9 +118,9 @@ impl Subcommand {
         }
     }
 
-    /// What is told before the edge list is read, if no plan has the numbers, whatever the graph. (A replay's script is
-    /// checked before its plan, and the other options of a run before all else.)
-    pub fn foretold(&self) -> Option<ProgressLine>
+    /// The line to report before the edge list is read, if no plan has the numbers, whatever the graph. (A replay's script
+    /// is checked before its plan, and the other options of a run before all else.)
+    pub(crate) fn foretold(&self) -> Option<ProgressLine>
         ensures { IfSome result (ForetellsOf self.now) }
     {
         match self {
@@ -134,18 +134,18 @@ impl Subcommand {
     }
 }
 
-/// What serves a subcommand: the machine, and who tells how it gets on, if that is to be reported.
+/// What a subcommand runs on: the machine, and a teller if progress is to be reported.
 #[derive(Drop)]
-pub struct Host<'a, H, T> {
-    /// What gives memory, random words, threads and the time.
-    pub rt: &'a H,
-    /// Who tells how it gets on.
-    pub teller: &'a Option<T>,
+pub(crate) struct Host<'a, H, T> {
+    /// The runtime: memory, random words, threads and the time.
+    pub(crate) rt: &'a H,
+    /// Reports progress, if that is asked for.
+    pub(crate) teller: &'a Option<T>,
 }
 
 impl<'a, H: RandomSource, T> Host<'a, H, T> {
     /// Random words to hash labels by.
-    pub fn random_state(&self) -> Result<RandomState, Fault>
+    pub(crate) fn random_state(&self) -> Result<RandomState, Fault>
         ensures { IfErr result (λ e. e ≡ Fault.Random) }
     {
         match RandomState::new(self.rt) {
@@ -157,14 +157,14 @@ impl<'a, H: RandomSource, T> Host<'a, H, T> {
 
 /// Why words are no command.
 #[derive(Drop)]
-pub enum WordsError {
+pub(crate) enum WordsError {
     /// `clap` refuses them, or help is asked for.
     Clap(Error),
     /// A list of orders is not of its form, or memory was refused.
     Orders(OrdersError),
 }
 
-// What the words of a subcommand say.
+// The subcommand that `clap` found, with its arguments.
 fn read_subcommand(alloc: Global, matches: &ArgMatches<'_>) -> Result<Subcommand, WordsError>
     requires { has_subcommand matches.now ≡ true }
     ensures asked { (x : Subcommand) → IsSubcommandOf (subcommand_rows_of matches.now) x →
@@ -185,9 +185,9 @@ fn read_subcommand(alloc: Global, matches: &ArgMatches<'_>) -> Result<Subcommand
     }
 }
 
-/// What the words of a command line ask for. The error is why they ask for nothing: lists of orders are read if `clap`
-/// finds nothing wrong.
-pub fn read_words(alloc: Global, words: &[String]) -> Result<Subcommand, WordsError>
+/// The subcommand that the words of a command line ask for. The error is why they ask for none; lists of orders are read
+/// if `clap` finds nothing wrong.
+pub(crate) fn read_words(alloc: Global, words: &[String]) -> Result<Subcommand, WordsError>
     ensures asked { (x : Subcommand) → IsSubcommand (texts_of words.now) x → IfOk result (Says x) }
     ensures found { IfOk result (IsOfWords (texts_of words.now)) }
     ensures faults { (kinds : List ErrorKind) → HasFaults (texts_of words.now) kinds →

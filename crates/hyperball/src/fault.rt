@@ -12,8 +12,8 @@ use world::replay::ReplayError;
 
 /// Why a command is not done, in the order of the checks.
 #[derive(Clone, Copy, Debug, Error)]
-pub enum Fault {
-    /// A run has no gate: memory was refused.
+pub(crate) enum Fault {
+    /// Memory was refused for the gate of a run.
     #[error("out of memory")]
     Gate,
     /// There are no random words to hash labels by.
@@ -80,10 +80,10 @@ impl From<ReplayError> for Fault {
 }
 
 /// The status of a fault.
-pub const FAULT: u8 = 1;
+pub(crate) const FAULT: u8 = 1;
 
 /// Reports a fault in one line, which is dropped if it cannot be written, and returns the status of a fault.
-pub fn tell_fault<F: Write>(faults: &mut F, fault: impl Display + Drop) -> u8
+pub(crate) fn tell_fault<F: Write>(faults: &mut F, fault: impl Display + Drop) -> u8
     ensures { result ≡ 1 }
 {
     let _ = writeln!(faults, "hyperball: {fault}");

@@ -1,6 +1,6 @@
-//! What a user is told, unasked, of an input that is probably not what was meant.
+//! Hints, unasked, on an input that is probably not what was meant.
 //!
-//! A [`HintingReader`] looks at what is read through it, and tells at most one [`Hint`], as soon as it is known: that of
+//! A [`HintingReader`] looks at what is read through it, and writes at most one [`Hint`], as soon as it is known: that of
 //! the first bytes with them, and that of the delimiter at the end of the edge list. It looks no further once none can
 //! be due ([`Look`]): a list is looked at up to its first line with two fields.
 
@@ -17,7 +17,7 @@ use std::io::Read;
 
 /// What is probably wrong with an input.
 #[derive(Clone, Copy, Debug, PartialEq, Eq)]
-pub enum Hint {
+pub(crate) enum Hint {
     /// It begins as what gzip has compressed.
     Gzip,
     /// It begins as a Matrix Market file.
@@ -31,8 +31,8 @@ pub enum Hint {
 }
 
 impl Hint {
-    /// The line that tells it, with its end.
-    pub fn line(self) -> &'static str
+    /// Its line, with the end.
+    pub(crate) fn line(self) -> &'static str
         ensures { result.now ≡ line_of_hint self }
     {
         match self {
@@ -240,7 +240,7 @@ impl Lines {
 
 /// What an input has shown so far.
 #[derive(Clone, Copy)]
-pub struct Look {
+pub(crate) struct Look {
     // whether a hint may still be due, and none was given
     due: bool,
     gzip: Front,
@@ -250,7 +250,7 @@ pub struct Look {
 
 impl Look {
     /// Nothing has come of an input with this delimiter, in which the mark ends the edge list or not.
-    pub fn new(delimiter: Delimiter, marked: bool) -> Look {
+    pub(crate) fn new(delimiter: Delimiter, marked: bool) -> Look {
         Look {
             due: true,
             gzip: Front { left: b"\x1f\x8b" },
@@ -262,7 +262,7 @@ impl Look {
     }
 
     /// Nothing is looked at.
-    pub fn closed() -> Look
+    pub(crate) fn closed() -> Look
         ensures { result.due ≡ false }
     {
         Look {
@@ -318,14 +318,14 @@ impl Look {
     }
 }
 
-// Tells a hint. What of it cannot be written is dropped.
+// Writes a hint. What of it cannot be written is dropped.
 fn tell_hint<W: CountedWrite>(hint: Hint, faults: &mut W)
     ensures { TellsHint hint (writes_of W.contents W.failed_calls faults.old faults.new) }
 {
     let _ = put_all(faults, hint.line().as_bytes());
 }
 
-// What looks at an input, and tells a hint if one is due.
+// What looks at an input, and writes a hint if one is due.
 #[derive(Drop)]
 struct Scout<W: Drop> {
     look: Look,
@@ -349,16 +349,16 @@ impl<W: CountedWrite + Drop> Scout<W> {
     }
 }
 
-/// A reader that tells a hint if one is due of what is read through it. All else is as the reader inside does it.
+/// A reader that writes a hint if one is due of what is read through it, and else does what the reader inside does.
 #[derive(Drop)]
-pub struct HintingReader<R: Drop, W: Drop> {
+pub(crate) struct HintingReader<R: Drop, W: Drop> {
     inner: R,
     scout: Scout<W>,
 }
 
 impl<R: CountedRead + Drop, W: CountedWrite + Drop> HintingReader<R, W> {
     /// The reader, of which nothing was read yet. Hints go to `faults`.
-    pub fn new(inner: R, look: Look, faults: W) -> HintingReader<R, W>
+    pub(crate) fn new(inner: R, look: Look, faults: W) -> HintingReader<R, W>
         ensures inner { result.inner ≡ inner }
         ensures look { result.scout.look ≡ look }
         ensures faults { result.scout.faults ≡ faults }

@@ -11,7 +11,7 @@ pub enum ProgressLine {
     NoLog2m {
         log2m: u8,
     },
-    /// No plan has so many partitions.
+    /// No plan has this number of partitions.
     NoParts {
         parts: u16,
     },
@@ -19,24 +19,24 @@ pub enum ProgressLine {
     NoLimit {
         limit: u32,
     },
-    /// So many records of an edge list are read so far.
+    /// Some records of an edge list are read so far.
     Reading {
         records: u64,
     },
-    /// An edge list is read, of so many records and vertices.
+    /// An edge list is read.
     Read {
         records: u64,
         vertices: u32,
     },
     /// A first node is at superstep 0.
     Start,
-    /// All partitions have come to a superstep, at which so many of all vertices changed.
+    /// All partitions have come to a superstep.
     Superstep {
         superstep: u32,
         changed: u64,
         vertices: u32,
     },
-    /// A node has gone on to a superstep, at which so many of its partition's vertices changed.
+    /// A node has closed a superstep, and is at this one; vertices are those of its partition.
     Close {
         node: NodeId,
         superstep: u32,

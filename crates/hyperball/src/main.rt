@@ -3,7 +3,7 @@
 //! `hyperball run` reads an edge list on standard input and writes its report on standard output; `hyperball replay`
 //! plays a script over one; `hyperball node` is one partition's node that answers commands, and `hyperball gather`
 //! writes the report of the checkpoints of all partitions. Each has a file in [`cli`], with its words and what it does.
-//! This file hands the real streams to [`serve::serve`], which goes from words and bytes to bytes and a status.
+//! This file hands the real streams to [`serve::serve`], which reads words and bytes, and returns a status.
 //! [`cli::read_words`] gives what the words ask for, a [`cli::Subcommand`]: of a run what is asked of it, with the lists of
 //! orders ([`cli::orders`]). With `--counted` a run reads its input whole ([`whole::read_whole`]) and cuts it into its
 //! parts ([`whole::parts_of`]), and so does a replay. The run itself is [`workers::run_watched`]. How a command gets on
@@ -25,16 +25,16 @@
 //! ```
 #![tactic(auto)]
 
-pub mod cli;
-pub mod fault;
-pub mod hints;
+mod cli;
+mod fault;
+mod hints;
 pub mod laws;
 pub mod lines;
 pub mod progress;
 pub mod serve;
 #[cfg(test)]
 mod tests;
-pub mod whole;
+mod whole;
 
 use crate::cli::Subcommand;
 use crate::hints::{HintingReader, Look};
@@ -49,7 +49,7 @@ fn words_of(rt: &HostRuntime) -> io::Result<Vec<String>> {
     Ok(env::args(rt)?.collect(rt.alloc())?)
 }
 
-// Tells why there are no words, and gives the status. A word that is no UTF-8 is refused as other mistaken words are.
+// Reports why there are no words, and returns the status. A word that is no UTF-8 is refused as other mistaken words are.
 fn tell_no_words(rt: &HostRuntime, error: io::Error) -> u8 {
     let mut faults = rt.stderr();
     if error.kind() == ErrorKind::InvalidData {
@@ -59,7 +59,7 @@ fn tell_no_words(rt: &HostRuntime, error: io::Error) -> u8 {
     fault::tell_fault(&mut faults, error)
 }
 
-// What a user is to know before anything is read: that the input is to be typed, and that no plan has the numbers.
+// Reports what a user is to know before anything is read: that input is to be typed, and that no plan has the numbers.
 fn tell_before(rt: &HostRuntime, subcommand: &Subcommand) {
     if rt.stdin().is_terminal() {
         let told =

@@ -1,8 +1,8 @@
 //! What is reported of how a command gets on, if that is asked for.
 //!
-//! [`LendTeller`] hands out a [`ProgressTeller`], which tells lines of progress ([`ProgressLine`]) and nothing else, and takes it back.
-//! What is refused whatever the graph ([`foretold`]) is told unasked. Of a run [`RunProgress`] says what is reported, and
-//! its [`ProgressGate`] says when; a replay, a node and a gathering have a [`ProgressWatch`].
+//! [`LendTeller`] hands out a [`ProgressTeller`], which writes lines of progress ([`ProgressLine`]) and nothing else, and
+//! takes it back. What is refused whatever the graph ([`foretold`]) is reported unasked. [`RunProgress`] is what is
+//! reported of a run, by its [`ProgressGate`]; a replay, a node and a gathering have a [`ProgressWatch`].
 
 ghost use Rattle.std.specs.Prelude.{◌≡◌, IfSome, List, None, Option, ℕ};
 ghost use Rattle.hyperball.specs.Progress.{Foretells, IsRefusedForVertices, TellsProgress};
@@ -18,9 +18,9 @@ use std::sync::atomic::{AtomicU32, AtomicU64, Ordering};
 use std::time::{Clock, Instant};
 use workers::{Gate, SleepingGate};
 
-/// What tells lines of progress.
+/// Writes lines of progress.
 pub trait ProgressTeller {
-    /// Tells a line, which is dropped if it cannot be written.
+    /// Writes a line, which is dropped if that fails.
     fn tell(&self, line: ProgressLine);
 }
 
@@ -32,19 +32,18 @@ impl ProgressTeller for Stderr {
 
 /// Where faults are reported, and progress if it is asked for.
 pub trait LendTeller: Write {
-    /// What tells progress there, from any thread.
+    /// Writes lines of progress there, from any thread.
     type Teller: ProgressTeller + Sync + Drop;
 
     // It has handed out this teller when that was there, and nothing was written to it since.
     ghost has_lent: { Self → Self.Teller → Option (List ℕ) → Type 0 };
 
-    /// Hands out what tells progress there. Until that is given back, no contract says what is there.
+    /// Hands out a teller. Until it is taken back, no contract says what is there.
     fn teller(&mut self) -> Self::Teller
         ensures { has_lent self.new result (Self.contents self.old) };
 
-    /// Takes back what tells progress there. If nothing else was written since, lines of progress are after what was
-    /// there before, and nothing else. They are to be those that it was given, but for those that were dropped; no
-    /// contract says so.
+    /// Takes the teller back. If nothing else was written since, lines of progress are after what was there before, and
+    /// nothing else: those that it was given, except those that were dropped; no contract says which.
     fn end(&mut self, teller: Self::Teller)
         ensures { (before : Option (List ℕ)) → has_lent self.old teller before →
             TellsProgress before (Self.contents self.new) };
@@ -65,7 +64,7 @@ impl LendTeller for Stderr {
 
 /// What is reported of these numbers if no plan has them, whatever the graph: the first of them in the order of the
 /// checks. (A plan of no vertices has the same fault.)
-pub fn foretold(log2m: u8, parts: u16, limit: u32) -> Option<ProgressLine>
+pub(crate) fn foretold(log2m: u8, parts: u16, limit: u32) -> Option<ProgressLine>
     ensures some { IfSome result (Foretells log2m parts limit) }
     ensures none { result ≡ None → IsRefusedForVertices log2m parts limit }
 {
@@ -94,10 +93,10 @@ impl Superstep {
     }
 }
 
-/// Tells how a run gets on: its edge list, the start of its supersteps, each superstep that all partitions have come
+/// Reports how a run gets on: its edge list, the start of its supersteps, each superstep that all partitions have come
 /// to, and the report.
 #[derive(Drop)]
-pub struct RunProgress<'a, T> {
+pub(crate) struct RunProgress<'a, T> {
     teller: &'a T,
     // how many vertices the graph has, once it is read
     vertices: AtomicU32,
@@ -112,8 +111,12 @@ pub struct RunProgress<'a, T> {
 }
 
 impl<'a, T: ProgressTeller> RunProgress<'a, T> {
-    /// Nothing is reported yet, of a run of so many partitions. The error is that memory was refused.
-    pub fn new(alloc: Global, teller: &'a T, parts: u16) -> Result<RunProgress<'a, T>, AllocError> {
+    /// Nothing is reported yet of a run of `parts` partitions. The error is that memory was refused.
+    pub(crate) fn new(
+        alloc: Global,
+        teller: &'a T,
+        parts: u16,
+    ) -> Result<RunProgress<'a, T>, AllocError> {
         Ok(RunProgress {
             teller,
             vertices: AtomicU32::new(0),
@@ -124,7 +127,7 @@ impl<'a, T: ProgressTeller> RunProgress<'a, T> {
         })
     }
 
-    // So many records are read so far.
+    // Some records are read so far.
     fn tell_reading(&self, records: u64) {
         self.teller.tell(ProgressLine::Reading { records });
     }
@@ -135,15 +138,15 @@ impl<'a, T: ProgressTeller> RunProgress<'a, T> {
         self.teller.tell(ProgressLine::Read { records, vertices });
     }
 
-    // A node is at superstep 0. The first one tells it.
+    // A node is at superstep 0. The first one reports it.
     fn note_start(&self) {
         if self.started.fetch_add(1, Ordering::SeqCst) == 0 {
             self.teller.tell(ProgressLine::Start);
         }
     }
 
-    // A node of a partition has come to a superstep, at which so many vertices of the partition changed. The first node
-    // of the last partition to come there tells it.
+    // A node of a partition has come to a superstep, at which `changed` vertices of the partition changed. The first node
+    // of the last partition to come there reports it.
     fn come_to(&self, part: u16, superstep: u32, changed: u32) {
         let Some(reached) = self.reached.get(usize::from(part)) else {
             return;
@@ -176,7 +179,7 @@ impl<'a, T: ProgressTeller> RunProgress<'a, T> {
     }
 }
 
-// No node has gone on from superstep 0, of so many partitions.
+// No node of any partition has gone on from superstep 0.
 fn at_start(alloc: Global, parts: u16) -> Result<Vec<AtomicU32>, AllocError> {
     let mut reached = Vec::with_capacity(alloc, usize::from(parts))?;
     for _ in 0..parts {
@@ -194,7 +197,7 @@ fn no_supersteps(alloc: Global) -> Result<Vec<Superstep>, AllocError> {
     Ok(supersteps)
 }
 
-/// How many milliseconds pass before a next line tells how far reading is.
+/// How many milliseconds pass before a next line says how far reading is.
 const PAUSE: u64 = 1000;
 
 // How long nothing is reported of reading: from its begin to a first line, and from each line to the next.
@@ -234,17 +237,17 @@ impl<'a, C: Clock> ReadingPause<'a, C> {
     }
 }
 
-/// A gate whose idle turns sleep, and which tells how the run gets on if there is a teller.
+/// A gate whose idle turns sleep, and which reports how the run gets on if there is a teller.
 #[derive(Drop)]
-pub struct ProgressGate<'a, C, T> {
+pub(crate) struct ProgressGate<'a, C, T> {
     sleeping: SleepingGate<'a, C>,
     pause: ReadingPause<'a, C>,
     progress: Option<RunProgress<'a, T>>,
 }
 
 impl<'a, C: Clock, T: ProgressTeller> ProgressGate<'a, C, T> {
-    /// A gate that sleeps by this clock, of a run of so many partitions. The error is that memory was refused.
-    pub fn new(
+    /// A gate that sleeps by this clock, of a run of `parts` partitions. The error is that memory was refused.
+    pub(crate) fn new(
         alloc: Global,
         clock: &'a C,
         teller: Option<&'a T>,
@@ -262,7 +265,7 @@ impl<'a, C: Clock, T: ProgressTeller> ProgressGate<'a, C, T> {
     }
 
     /// The run has ended, and written its report or not.
-    pub fn after_run(&self, written: bool) {
+    pub(crate) fn after_run(&self, written: bool) {
         if let Some(progress) = &self.progress
             && written
         {
@@ -315,34 +318,34 @@ impl<'a, C: Clock, T: Teller> Watch for TellingGate<'a, C, T> {
     }
 }
 
-/// A watch that tells how a replay, a node or a gathering gets on, if there is a teller.
+/// A watch that reports how a replay, a node or a gathering gets on, if there is a teller.
 #[derive(Clone, Copy)]
-pub struct ProgressWatch<'a, T> {
+pub(crate) struct ProgressWatch<'a, T> {
     teller: &'a Option<T>,
 }
 
 impl<'a, T: ProgressTeller> ProgressWatch<'a, T> {
     /// Nothing is reported yet.
-    pub fn new(teller: &'a Option<T>) -> ProgressWatch<'a, T> {
+    pub(crate) fn new(teller: &'a Option<T>) -> ProgressWatch<'a, T> {
         ProgressWatch { teller }
     }
 
     /// The replay has written its answers.
-    pub fn after_replay(&self) {
+    pub(crate) fn after_replay(&self) {
         self.tell(ProgressLine::Answers);
     }
 
     /// The node has answered all commands.
-    pub fn after_commands(&self) {
+    pub(crate) fn after_commands(&self) {
         self.tell(ProgressLine::Commands);
     }
 
     /// The gathering has written its report.
-    pub fn after_gathering(&self) {
+    pub(crate) fn after_gathering(&self) {
         self.tell(ProgressLine::Report);
     }
 
-    // Tells a line if there is a teller.
+    // Writes a line if there is a teller.
     fn tell(&self, line: ProgressLine) {
         if let Some(teller) = self.teller {
             teller.tell(line);

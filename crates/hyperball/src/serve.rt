@@ -77,7 +77,7 @@ fn stray_word(text: &str) -> Option<&str> {
     }
 }
 
-// Tells one who named a file that the input comes on standard input, and the line to type.
+// Reports to a user who named a file that the input comes on standard input, with the line to type.
 fn tell_file<F: Write>(alloc: Global, words: &[String], error: &clap::Error, faults: &mut F) {
     let Ok(text) = format!(in alloc; "{error}") else {
         return;
@@ -92,7 +92,7 @@ fn tell_file<F: Write>(alloc: Global, words: &[String], error: &clap::Error, fau
     }
 }
 
-// Tells why `clap` reads no command: help and the version go to the writer, and all else to the faults.
+// Reports why `clap` reads no command: help and the version on the writer, and all else on `faults`.
 fn tell_clap<W: CountedWrite, F: Write>(
     alloc: Global,
     words: &[String],
@@ -121,7 +121,7 @@ fn tell_clap<W: CountedWrite, F: Write>(
     }
 }
 
-// Tells a mistake in a list of orders, or that memory was refused.
+// Reports a mistake in a list of orders, or that memory was refused.
 fn tell_orders<F: Write>(faults: &mut F, error: OrdersError) -> u8
     ensures ends { EndsOrders error result }
     ensures status { (result ≡ 1) ⊎ (result ≡ 2) }
@@ -138,7 +138,7 @@ fn tell_orders<F: Write>(faults: &mut F, error: OrdersError) -> u8
     }
 }
 
-// Tells why the words are those of no command.
+// Reports why the words are those of no command.
 fn tell_words<W: CountedWrite, F: Write>(
     alloc: Global,
     words: &[String],
@@ -162,7 +162,7 @@ fn tell_words<W: CountedWrite, F: Write>(
     }
 }
 
-// What tells progress, if it is asked for.
+// Hands out a teller, if progress is asked for.
 fn teller_for<F: LendTeller>(asked: bool, faults: &mut F) -> Option<F::Teller>
     ensures silent { asked ≡ false → result ≡ None }
     ensures lent { Awaits F.has_lent F.contents faults.new result (F.contents faults.old) }
@@ -170,7 +170,7 @@ fn teller_for<F: LendTeller>(asked: bool, faults: &mut F) -> Option<F::Teller>
     if asked { Some(faults.teller()) } else { None }
 }
 
-// Takes back what tells progress, if it was handed out.
+// Takes the teller back, if one was handed out.
 fn end_telling<F: LendTeller>(teller: Option<F::Teller>, faults: &mut F)
     ensures silent { teller ≡ None → Keeps (F.contents faults.old) (F.contents faults.new) }
     ensures told { (before : Option (List ℕ)) →
@@ -226,10 +226,10 @@ fn fulfil<
     }
 }
 
-/// Does what the words of a command line say, and gives the exit status.
+/// Does what the words of a command line say, and returns the exit status.
 ///
-/// 0: the report or the answers were written, or help or the version was asked for, whose text goes to the writer;
-/// nothing goes to `faults`, unless `--progress` asks for progress there, and then lines of progress alone. 1: a fault,
+/// 0: the report or the answers were written, or help or the version was asked for, and its text was written; on
+/// `faults` there is nothing, or lines of progress alone if `--progress` asks for them. 1: a fault,
 /// in one line on `faults`; nothing was written, with two exceptions: a beginning, if a write failed, or memory was
 /// refused in a replay or for the report of checkpoints; and what a node answered before. 2: words that are refused, as
 /// `clap` reports it there, or a list of orders that is not of its form; nothing was read or written.

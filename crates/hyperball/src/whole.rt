@@ -19,7 +19,7 @@ const PIECE: usize = 65_536;
 
 /// A part that an input lacks: no line of exactly `%%` is before it.
 #[derive(Clone, Copy, Debug, Error)]
-pub enum Lack {
+pub(crate) enum Lack {
     /// The list of counted vertices.
     #[error("no line %% before the list")]
     List,
@@ -30,27 +30,27 @@ pub enum Lack {
 
 /// Which parts an input is to have after its edge list, in this order, with a line of exactly `%%` before each.
 #[derive(Clone, Copy)]
-pub struct Form {
+pub(crate) struct Form {
     /// Whether it has a list of counted vertices.
-    pub list: bool,
+    pub(crate) list: bool,
     /// Whether it has a script.
-    pub script: bool,
+    pub(crate) script: bool,
 }
 
 /// The parts of an input.
 #[derive(Clone, Copy)]
-pub struct Parts<'a> {
+pub(crate) struct Parts<'a> {
     /// The edge list.
-    pub edges: &'a [u8],
+    pub(crate) edges: &'a [u8],
     /// The list of counted vertices, if there is one.
-    pub list: Option<&'a [u8]>,
+    pub(crate) list: Option<&'a [u8]>,
     /// The script, if there is one.
-    pub script: Option<&'a [u8]>,
+    pub(crate) script: Option<&'a [u8]>,
 }
 
 /// Why an input is not read whole, in the order of the checks.
 #[derive(Clone, Copy, Debug, Error)]
-pub enum WholeError {
+pub(crate) enum WholeError {
     /// A read failed.
     #[error("the input cannot be read")]
     Read,
@@ -90,7 +90,7 @@ fn add_piece(bytes: &mut Vec<u8>, piece: &[u8]) -> Result<(), WholeError>
     Ok(())
 }
 
-// A buffer of so many bytes.
+// A buffer of this length.
 fn buffer_of(alloc: Global, size: usize) -> Result<Vec<u8>, AllocError>
     ensures { IfOk result (λ buffer. length buffer.items ≡ size) }
 {
@@ -131,7 +131,10 @@ fn read_all<R: CountedRead>(
 ///
 /// `Read` is answered if a call of the reader failed and at no other time, `Size` only if there are more than 2^26
 /// bytes, `Memory` only if no more than 2^26 were read.
-pub fn read_whole<R: CountedRead>(alloc: Global, reader: &mut R) -> Result<Vec<u8>, WholeError>
+pub(crate) fn read_whole<R: CountedRead>(
+    alloc: Global,
+    reader: &mut R,
+) -> Result<Vec<u8>, WholeError>
     ensures ok { IfOk result (λ bytes. IsWholeInput (R.remaining reader.old) bytes.items) }
     ensures within { IfOk result (λ bytes. length bytes.items ≤ MOST_BYTES) }
     ensures reads { ReadsWhole
@@ -153,7 +156,7 @@ fn mark_here(begins: bool, bytes: &[u8]) -> Option<&[u8]>
 }
 
 /// What is before the first line of exactly `%%`, and what follows it.
-pub fn sections(input: &[u8]) -> Option<(&[u8], &[u8])>
+pub(crate) fn sections(input: &[u8]) -> Option<(&[u8], &[u8])>
     ensures { option_map (λ s. (s.0.now, s.1.now)) result ≡ sections_of input.now }
 {
     let mut begins = true;
@@ -178,7 +181,7 @@ fn cut(input: &[u8], missing: Lack) -> Result<(&[u8], &[u8]), Lack>
 }
 
 /// The parts of an input of this form, or the first that it lacks.
-pub fn parts_of(input: &[u8], form: Form) -> Result<Parts<'_>, Lack>
+pub(crate) fn parts_of(input: &[u8], form: Form) -> Result<Parts<'_>, Lack>
     ensures ok { IfOk result (λ p. parts_in form.list form.script input.now ≡ Ok (record {
       edges = p.edges.now;
       list = list_in p.list;

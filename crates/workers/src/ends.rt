@@ -1,4 +1,4 @@
-//! What the nodes of a job say at their ends, put together.
+//! The ends of all nodes of a job, put together: a replica of each partition, or the first fault.
 
 ghost use Rattle.std.specs.Prelude.{◌≡◌, ◌≢◌, ◌≤◌, ◌<◌, ℕ, true, false, All, Err, IfErr, IfOk};
 ghost use Rattle.std.specs.Prelude.{IfSome, Some, is_some, length};
@@ -82,7 +82,7 @@ impl Faults {
     }
 }
 
-// Notes a node that did not reach the end, and tells whether it was lost.
+// Notes a node that did not reach the end, and returns whether it was lost.
 fn note(faults: &mut Faults, node: NodeId, end: &NodeResult) -> bool
     ensures lost { (j : Job) (p : ℕ) (orders : NodeOrders) →
         KeepsItsOrders j p orders end.now → result ≡ true → is_some orders.lose ≡ true }
@@ -135,7 +135,7 @@ pub(crate) fn is_done(end: &NodeResult) -> bool
     matches!(end, Ok(NodeEnd::Done(_)))
 }
 
-// Notes what is wrong with the nodes of a partition, and tells whether one of them has reached the end.
+// Notes what is wrong with the nodes of a partition, and returns whether one of them has reached the end.
 fn note_part(faults: &mut Faults, p: u16, ends: &[NodeResult]) -> bool
     requires few { length ends.now ≤ MOST_REPLICAS }
     ensures noted { (j : Job) (o : RunOptions) → IsPartEnd j o p ends.now → p < j.plan.parts →

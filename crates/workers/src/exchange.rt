@@ -69,8 +69,8 @@ pub trait Exchange {
         ensures full { IfErr result (λ e. e ≡ BookFull → IsFull (caller self.new)) }
         ensures memory { IfErr result (λ e. e ≡ Memory → HasRoom (caller self.new)) };
 
-    /// Finds the snapshot that is kept for a partition: None exactly if there is none whose superstep is `at_least` so
-    /// much, and then no entry is added. It is at least as far as what the caller had seen kept.
+    /// Finds the snapshot that is kept for a partition: None exactly if there is none of superstep `at_least` or later, and
+    /// then no entry is added. It is at least as far as what the caller had seen kept.
     ///
     /// [`BookFull`](BoardError::BookFull) if there is one and the history is full, then [`Memory`](BoardError::Memory).
     fn recall<R: Wait>(

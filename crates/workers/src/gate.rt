@@ -24,15 +24,15 @@ pub trait Gate {
     /// The node waits: nothing that it needs is there, and it looks again after this call.
     fn idle(&self, node: NodeId);
 
-    /// The node waits for what a partition tells; the answer is whether it may still come. If it is false, the node
-    /// looks once more, and gives up. As given, it is an idle turn, and true.
+    /// The node waits for a batch of a partition; the answer is whether it may still come. If it is false, the node
+    /// looks once more, and gives up. Unless it is overridden, this is an idle turn, and true.
     fn wait_for(&self, node: NodeId, _source: u16) -> bool {
         self.idle(node);
         true
     }
 }
 
-/// A gate that does nothing, save that an idle turn yields the thread.
+/// A gate that does nothing, except that an idle turn yields the thread.
 ///
 /// For a library's user: the program does not call it.
 #[derive(Clone, Copy, Debug)]
@@ -95,7 +95,7 @@ const LONGEST: u64 = 1000;
 /// A gate whose idle turns yield the thread some dozens of times, and then sleep, longer each time, up to a
 /// millisecond. After each of its posts a node begins anew.
 ///
-/// So who waits uses no processor, and a million idle turns are more than ten minutes.
+/// So a node that waits uses no processor, and a million idle turns are more than ten minutes.
 #[derive(Drop)]
 pub struct SleepingGate<'a, C> {
     clock: &'a C,
@@ -136,7 +136,7 @@ pub(crate) fn place_of(node: NodeId) -> usize
     usize::from(node.part) * usize::from(MOST_REPLICAS) + usize::from(node.replica)
 }
 
-// Lets some time pass after so many idle turns.
+// Yields in the first idle turns, and sleeps in later ones.
 fn rest<C: Clock>(clock: &C, turns: u32) {
     if turns < YIELDS {
         thread::yield_now();

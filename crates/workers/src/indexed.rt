@@ -23,7 +23,7 @@ pub(crate) struct Prepared {
     first: FirstTables,
 }
 
-// Below so many bytes of registers and so many edges, threads cost more than they save.
+// Below these numbers of bytes of registers and of edges, threads cost more than they save.
 const FEW: usize = 1 << 20;
 
 const FEW_EDGES: usize = 1 << 18;
@@ -58,7 +58,7 @@ impl Prepared {
         Ok(Prepared { targets, first })
     }
 
-    // They are made side by side, each by so many threads.
+    // They are made side by side, each by this number of threads.
     fn side_by_side<R: AllocGlobal + Threads + Sync>(
         rt: &R,
         part: &Part,
@@ -175,8 +175,7 @@ impl ReadyPart {
         &self.part
     }
 
-    /// The part for another replica. What was made already goes with the first that is handed out; the others make
-    /// theirs.
+    /// The part for another replica. The first that is handed out has what was made already; the others make theirs.
     pub(crate) fn hand_out(&mut self, alloc: Global) -> Result<ReadyPart, AllocError>
         ensures same { self.new ≡ self.old }
         ensures other { IfOk result (λ ready. ready ≡ self.old) }

@@ -1,7 +1,7 @@
-//! Runs: nodes that post what they have to tell, fetch what others tell them, and go on, a thread each.
+//! Runs: nodes, a thread each, that post what changed, fetch what others posted, and close their superstep.
 //!
-//! [`run`] goes from an edge list to its report, by [`RunOptions`]: a board for the job, and a thread for each replica of
-//! each partition. Its [`RunError`] says why there is no report.
+//! [`run`] reads an edge list and writes its report, by [`RunOptions`]: a board for the job, and a thread for each replica
+//! of each partition. Its [`RunError`] says why there is no report.
 //!
 //! ```text
 //! let gate = SleepingGate::new(rt.alloc(), rt)?;

@@ -80,7 +80,7 @@ fn orders_for(options: &RunOptions, node: NodeId) -> NodeOrders
     }
 }
 
-/// A node at its seat, with its part and its orders.
+/// A node at its seat: what its thread takes over.
 #[derive(Drop)]
 struct Seated {
     seat: Seat,
@@ -96,7 +96,7 @@ struct Ended {
     told: Option<Look>,
 }
 
-// Runs a node at its seat, and tells the others if it ends before the end of the run.
+// Runs a node at its seat, and marks it if it ends before the end of the run.
 fn run_at<R: AllocGlobal + Threads + Wait + Sync, G: Gate + Watch>(
     rt: &R,
     board: &Board,
@@ -180,7 +180,7 @@ impl<'a, R: AllocGlobal + Threads + Wait + Sync, G: Gate + Watch + Sync> Crew<'a
         }
     }
 
-    // Starts the thread of a node. If there can be none, the others are told.
+    // Starts the thread of a node. If there can be none, the node is marked.
     fn start_node<'s, X>(
         &'a self,
         scope: &'s Scope<'s, X>,
@@ -258,8 +258,8 @@ impl<'a, R: AllocGlobal + Threads + Wait + Sync, G: Gate + Watch + Sync> Crew<'a
         Ok(children)
     }
 
-    // Starts the threads of all nodes, partition by partition. If not all can be started, those that were started are told
-    // to wait no more, and what is given back knows of it.
+    // Starts the threads of all nodes, partition by partition. If not all can be started, the run is marked as stopped, so
+    // that those that were started wait no more; the look that is returned has seen that mark.
     fn start_all<'s, X>(
         &'a self,
         scope: &'s Scope<'s, X>,
@@ -291,7 +291,7 @@ impl<'a, R: AllocGlobal + Threads + Wait + Sync, G: Gate + Watch + Sync> Crew<'a
         Ok(children)
     }
 
-    // Starts all nodes, waits for all, and tells how each of them ended. The error is that memory was refused.
+    // Starts all nodes, waits for all, and returns their ends. The error is that memory was refused.
     fn run_in<'s, X>(
         &'a self,
         scope: &'s Scope<'s, X>,
@@ -356,8 +356,8 @@ fn join_all<R: AllocGlobal + Threads>(
     Ok(ends)
 }
 
-// Runs all nodes of a job by the parts of its partitions, a thread each, and tells how each of them ended. The error is
-// that memory was refused.
+// Runs all nodes of a job by the parts of its partitions, a thread each, and returns their ends. The error is that memory
+// was refused.
 fn run_nodes<'a, R: AllocGlobal + Threads + Wait + Sync, G: Gate + Watch + Sync>(
     rt: &'a R,
     graph: &'a Graph,
@@ -402,8 +402,8 @@ fn run_nodes<'a, R: AllocGlobal + Threads + Wait + Sync, G: Gate + Watch + Sync>
     )
 }
 
-/// Runs all nodes of a job by the parts of its partitions, a thread each, and gives the replica of each partition at the
-/// end of the run: that of the first of its nodes that is done.
+/// Runs all nodes of a job by the parts of its partitions, a thread each, and returns the replica of each partition at
+/// the end of the run: that of the first of its nodes that is done.
 pub(crate) fn run_job<'a, R: AllocGlobal + Threads + Wait + Sync, G: Gate + Watch + Sync>(
     rt: &'a R,
     graph: &'a Graph,

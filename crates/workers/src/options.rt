@@ -38,7 +38,7 @@ pub struct RunOptions {
     /// Each node keeps a snapshot at each superstep that is a multiple of this, up to 4096, and none if it is 0. One node
     /// with no order to start anew keeps none: no call could recall it.
     pub keep: u32,
-    /// After so many idle turns in succession, at least 1, a node gives up.
+    /// The number of idle turns in succession after which a node gives up, at least 1.
     pub patience: u32,
     /// Which nodes are lost, and at which superstep. The first order for a node counts.
     pub lose: Vec<(NodeId, u32)>,
@@ -46,7 +46,7 @@ pub struct RunOptions {
     pub restart: Vec<(NodeId, u32)>,
 }
 
-/// Whether a run of so many partitions and replicas has the node.
+/// Whether a run of this many partitions and replicas has the node.
 pub(crate) fn is_named(parts: u16, replicas: u8, node: NodeId) -> bool
     ensures { result ≡ is_named parts replicas node }
 {

@@ -21,7 +21,7 @@ pub(crate) struct Planned {
     pub(crate) parts: Vec<ReadyPart>,
 }
 
-// What makes the parts of a plan over a graph, each by so many threads.
+// What makes the parts of a plan over a graph, each by this number of threads.
 #[derive(Drop)]
 struct Maker<'a, R> {
     rt: &'a R,
@@ -94,7 +94,7 @@ fn shared_parts(
     Ok(shared)
 }
 
-/// A plan with its job digest, and the part of each of its partitions, made by so many threads of its own.
+/// A plan with its job digest, and the part of each of its partitions, each made by this number of threads.
 pub(crate) fn plan_parts<R: AllocGlobal + Threads + Sync>(
     rt: &R,
     graph: &Graph,

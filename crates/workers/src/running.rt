@@ -1,4 +1,4 @@
-//! What the nodes of a run share: which partitions may still tell something, and how many threads each node has.
+//! What the nodes of a run share: which partitions may still post, and how many threads each node has.
 
 ghost use Rattle.std.specs.Prelude.{◌≡◌, ◌+◌, ◌*◌, ◌≤◌, [], ◌∷◌, IfErr, IfOk, IfSome, is_some};
 ghost use Rattle.ball_model.specs.declared.plan.TheConstants.{MOST_REPLICAS};
@@ -29,8 +29,7 @@ pub(crate) struct Running {
 }
 
 impl Running {
-    /// No node has ended, of so many partitions of so many replicas, each of which may use so many threads. The error is
-    /// that memory was refused.
+    /// No node has ended yet; each may use `threads` threads. The error is that memory was refused.
     pub(crate) fn new(
         alloc: Global,
         parts: u16,
@@ -57,8 +56,8 @@ impl Running {
         self.threads
     }
 
-    /// A node has ended so. If that is before the end of the run it is marked, and what is given back knows of this and of
-    /// nothing else; None exactly if it has reached the end, or the run has no such node.
+    /// Marks a node that has ended before the end of the run; the look that is returned has seen this mark alone. None
+    /// exactly if the node has reached the end, or the run has no such node.
     pub(crate) fn end(&self, node: NodeId, end: &NodeResult) -> Option<Look>
         ensures table { IfSome result (λ look. look.table_id ≡ self.now.marked) }
         ensures known { IfSome result (λ look.
@@ -73,8 +72,8 @@ impl Running {
         Some(look)
     }
 
-    /// Not all nodes have threads, and there will be no further ones: nobody waits any more. What is given back knows of
-    /// this, and of the end of no node.
+    /// Marks the run as stopped: not all nodes have threads, and nobody waits any more. The look that is returned has seen
+    /// this mark alone.
     pub(crate) fn stop(&self) -> Look
         ensures table { result.table_id ≡ self.now.marked }
         ensures known { result.me ≡ (stop_place self.now.parts ∷ [], []) }
@@ -94,7 +93,7 @@ impl Running {
         })
     }
 
-    // That the run has stopped; None if it goes on.
+    // A look that has seen that the run has stopped; None if it has not.
     fn stopped(&self) -> Option<Look>
         ensures table { IfSome result (λ look. look.table_id ≡ self.now.marked) }
         ensures known { IfSome result (λ look.
@@ -108,7 +107,7 @@ impl Running {
         }
     }
 
-    /// Whether a partition may still tell something. If it may not, what is given back knows that the run has stopped, or
+    /// Whether a partition may still post. If it may not, the look that is returned has seen that the run has stopped, or
     /// that all nodes of this partition have ended too early.
     pub(crate) fn may_come(&self, source: u16) -> Result<(), Look>
         ensures table { IfErr result (λ look. look.table_id ≡ self.now.marked) }
@@ -124,8 +123,8 @@ impl Running {
         }
     }
 
-    // That all nodes of a partition have ended before the end of the run; None if the run has no such partition, or one
-    // of them goes on or has reached the end.
+    // A look that has seen that all nodes of a partition ended before the end of the run; None if the run has no such
+    // partition, or one of them is still running or has reached the end.
     fn gone(&self, part: u16) -> Option<Look>
         ensures table { IfSome result (λ look. look.table_id ≡ self.now.marked) }
         ensures known { IfSome result (λ look.
@@ -145,7 +144,7 @@ impl Running {
     }
 }
 
-/// So many numbers that threads share, each of them 0. The error is that memory was refused.
+/// Numbers that threads share, each of them 0. The error is that memory was refused.
 pub(crate) fn zeros(alloc: Global, count: usize) -> Result<Vec<AtomicU32>, AllocError> {
     let mut numbers = Vec::with_capacity(alloc, count)?;
     for _ in 0..count {

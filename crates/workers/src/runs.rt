@@ -111,8 +111,8 @@ fn give_back(replicas: &mut [Replica])
     }
 }
 
-// The text of the report of replicas at the end of their run, which give back first what they need no more, by at most so
-// many threads; by all processors if 0 are asked for. The error is that memory was refused.
+// The text of the report of replicas at the end of their run, which first give back what they need no more. At most
+// `threads` threads make it, or all processors if that is 0. The error is that memory was refused.
 fn replicas_text<T: AllocGlobal + Threads + Sync>(
     rt: &T,
     graph: &Graph,
@@ -152,16 +152,15 @@ fn write_text<W: CountedWrite>(writer: &mut W, text: &Pages) -> Result<(), RunEr
 
 /// Reads an edge list and writes its report. A thread for each replica of each partition makes the supersteps; if many
 /// vertices changed, it shares the work with others, so that together they use as many as the options say (or four
-/// times as many, for the largest supersteps, if all processors may work). So many make the figures, once these have
-/// ended.
+/// times as many, for the largest supersteps, if all processors may work). As many as the options say then make the
+/// figures.
 ///
 /// With a list of `counted` vertices only those are counted; the list is read after the edge list, and its lines are as
 /// there, one label in each. The report is built in memory and then written, so nothing is written unless the answer is
 /// Ok or `Write`, and after `Write` a beginning of it. `Edges(Read)` is answered if a call of the reader failed (while
 /// failures can be counted) and at no other time, `Write` exactly if one of the writer did. What is said of the input
-/// holds for plain bytes: an LF after each CR. (That no failed call of the reader is made again is written so, and no
-/// clause says it.) Several threads ask for some MiB beyond a record that is refused, and answer `Edges(Read)` if that
-/// fails.
+/// holds for plain bytes: an LF after each CR. (No failed call of the reader is made again; no clause says so.) Several
+/// threads read some MiB beyond a record that is refused, and answer `Edges(Read)` if that fails.
 ///
 /// In this order: `Options`, before anything is read; `Edges`, `Counted` and `Plan`; if some partition has no node that
 /// reached the end `PartitionLost`, `BookFull`, `Memory` and `Starved`, the first that the nodes' ends give; then

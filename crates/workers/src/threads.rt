@@ -2,7 +2,7 @@
 
 ghost use Rattle.std.specs.Prelude.{◌≡◌, ◌*◌, ◌/◌, ◌<◌, ◌≤◌, max};
 
-/// The share of a node in so many threads, if each of so many partitions has so many replicas: at least one.
+/// The share of a node in these threads, if each of `parts` partitions has `replicas` replicas: at least one.
 pub(crate) fn share_of(threads: usize, parts: u16, replicas: u8) -> usize
     ensures some { 1 ≤ result }
     ensures share { 0 < parts * replicas → result ≡ max (threads / (parts * replicas)) 1 }

@@ -1,4 +1,4 @@
-//! The subcommands, as what help tells of them and as tables of their arguments.
+//! Subcommands as `clap` has them, from their texts of help and tables of their arguments.
 
 ghost use Rattle.std.specs.Prelude.{◌≡◌, IfOk, codes, false};
 ghost use Rattle.clap.specs.Words.{App, new_app, rule_of};
@@ -17,27 +17,27 @@ const LARGE_HELP: &str =
 
 /// An argument of a command: an option whose value is read by a parser, or a flag, which has no value.
 #[derive(Clone, Copy)]
-pub struct Argument<'a> {
+pub(crate) struct Argument<'a> {
     name: &'a str,
     help: &'a str,
     parser: Option<ValueParser<'a>>,
 }
 
-/// The name of a subcommand, and what help tells of it.
+/// The name of a subcommand, and its texts of help.
 #[derive(Clone, Copy)]
-pub struct Texts<'a> {
+pub(crate) struct Texts<'a> {
     /// Its name.
-    pub name: &'a str,
+    pub(crate) name: &'a str,
     /// What it does, in a line.
-    pub about: &'a str,
+    pub(crate) about: &'a str,
     /// What it does, at length.
-    pub long_about: &'a str,
+    pub(crate) long_about: &'a str,
     /// What its help says after its arguments.
-    pub after_help: &'a str,
+    pub(crate) after_help: &'a str,
 }
 
 /// An option that takes a value.
-pub fn option<'a>(name: &'a str, help: &'a str, parser: ValueParser<'a>) -> Argument<'a>
+pub(crate) fn option<'a>(name: &'a str, help: &'a str, parser: ValueParser<'a>) -> Argument<'a>
     ensures { rule_in result ≡ option_rule name.entry.now parser.entry }
 {
     Argument {
@@ -48,7 +48,7 @@ pub fn option<'a>(name: &'a str, help: &'a str, parser: ValueParser<'a>) -> Argu
 }
 
 /// An option that takes none.
-pub fn flag<'a>(name: &'a str, help: &'a str) -> Argument<'a>
+pub(crate) fn flag<'a>(name: &'a str, help: &'a str) -> Argument<'a>
     ensures { rule_in result ≡ flag_rule name.entry.now }
 {
     Argument {
@@ -59,21 +59,21 @@ pub fn flag<'a>(name: &'a str, help: &'a str) -> Argument<'a>
 }
 
 /// The option of a number of threads, with its help.
-pub fn threads<'a>(help: &'a str) -> Argument<'a>
+pub(crate) fn threads<'a>(help: &'a str) -> Argument<'a>
     ensures { rule_in result ≡ option_rule (codes "threads") thread_number }
 {
     option("threads", help, ValueParser::Signed(0, 1024))
 }
 
 /// The flag of large edge lists.
-pub fn large<'a>() -> Argument<'a>
+pub(crate) fn large<'a>() -> Argument<'a>
     ensures { rule_in result ≡ flag_rule (codes "large") }
 {
     flag("large", LARGE_HELP)
 }
 
 /// The flag of progress.
-pub fn progress<'a>() -> Argument<'a>
+pub(crate) fn progress<'a>() -> Argument<'a>
     ensures { rule_in result ≡ flag_rule (codes "progress") }
 {
     flag("progress", PROGRESS_HELP)
@@ -119,7 +119,7 @@ fn bare<'a>(alloc: Global, texts: &Texts<'a>) -> Command<'a>
 }
 
 /// The subcommand of these texts, with some arguments and with others after them.
-pub fn subcommand_of<'a>(
+pub(crate) fn subcommand_of<'a>(
     alloc: Global,
     texts: &Texts<'a>,
     first: &[Argument<'a>],

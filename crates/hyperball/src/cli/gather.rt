@@ -1,4 +1,4 @@
-//! The command `hyperball gather`: its words, and the report of the checkpoints of all partitions.
+//! The subcommand `gather`: its arguments, and the report of the checkpoints of all partitions.
 
 ghost use Rattle.std.specs.Prelude.{◌≡◌, Bool, IfErr, IfOk, OnOk, codes};
 ghost use Rattle.clap.specs.Words.{found_of, rows_of};
@@ -61,17 +61,17 @@ const GATHER_PARTS_HELP: &str =
 const GATHER_THREADS_HELP: &str =
     "Threads that make the figures, 1 to 1024; 0: one a core [default: 0]";
 
-/// What the words of a gathering say.
+/// The arguments of a gathering.
 #[derive(Clone, Copy, PartialEq, Eq)]
-pub struct GatherArgs {
+pub(crate) struct GatherArgs {
     /// What is asked of its job. Its threads make the figures.
-    pub job: JobInput,
+    pub(crate) job: JobInput,
     /// Whether progress is to be reported.
-    pub progress: bool,
+    pub(crate) progress: bool,
 }
 
 /// The subcommand gather, with parsers of estimates and of delimiters.
-pub fn gather_command<'a>(
+pub(crate) fn gather_command<'a>(
     alloc: Global,
     estimates: ValueParser<'a>,
     delimiters: ValueParser<'a>,
@@ -90,8 +90,8 @@ pub fn gather_command<'a>(
     subcommand_of(alloc, &texts, &job, &others)
 }
 
-/// What the words of a gathering say. Values are as `clap` has checked them.
-pub fn gather_args_of(matches: &ArgMatches<'_>) -> GatherArgs
+/// The arguments of a gathering, as `clap` has checked them.
+pub(crate) fn gather_args_of(matches: &ArgMatches<'_>) -> GatherArgs
     ensures options { (w : GatherArgs) → AreGatherOptionsOf (rows_of (found_of matches.now)) w →
         result ≡ w }
     ensures progress { (b : Bool) → IsFlag (rows_of (found_of matches.now)) (codes "progress") b →
@@ -104,9 +104,8 @@ pub fn gather_args_of(matches: &ArgMatches<'_>) -> GatherArgs
     }
 }
 
-/// The report of the checkpoints in the input, of all partitions of a job. If there is a teller, it tells how the
-/// gathering gets on.
-pub fn gather_by<
+/// Writes the report of the checkpoints in the input, of all partitions of a job.
+pub(crate) fn gather_by<
     H: AllocGlobal + Threads + Sync,
     T: ProgressTeller,
     R: CountedRead,

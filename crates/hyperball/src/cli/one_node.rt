@@ -1,4 +1,4 @@
-//! The command `hyperball node`: its words, and one partition's node that answers commands. (No module may be named as the
+//! The subcommand `node`: its arguments, and one partition's node that answers commands. (No module may be named as the
 //! crate `node`.)
 
 ghost use Rattle.std.specs.Prelude.{◌≡◌, Bool, IfErr, IfOk, OnOk, codes};
@@ -80,19 +80,19 @@ const NODE_PARTS_HELP: &str =
 const PART_HELP: &str =
     "Partition of this node, from 0 on: each node of a job has another one [default: 0]";
 
-/// What the words of a node say.
+/// The arguments of a node.
 #[derive(Clone, Copy, PartialEq, Eq)]
-pub struct NodeArgs {
+pub(crate) struct NodeArgs {
     /// What is asked of its job.
-    pub job: JobInput,
+    pub(crate) job: JobInput,
     /// Its partition.
-    pub part: u16,
+    pub(crate) part: u16,
     /// Whether progress is to be reported.
-    pub progress: bool,
+    pub(crate) progress: bool,
 }
 
 /// The subcommand node, with parsers of estimates and of delimiters.
-pub fn node_command<'a>(
+pub(crate) fn node_command<'a>(
     alloc: Global,
     estimates: ValueParser<'a>,
     delimiters: ValueParser<'a>,
@@ -111,8 +111,8 @@ pub fn node_command<'a>(
     subcommand_of(alloc, &texts, &job, &[part, large(), progress()])
 }
 
-/// What the words of a node say. Values are as `clap` has checked them.
-pub fn node_args_of(matches: &ArgMatches<'_>) -> NodeArgs
+/// The arguments of a node, as `clap` has checked them.
+pub(crate) fn node_args_of(matches: &ArgMatches<'_>) -> NodeArgs
     ensures options { (w : NodeArgs) → AreNodeOptionsOf (rows_of (found_of matches.now)) w →
         result ≡ w }
     ensures progress { (b : Bool) → IsFlag (rows_of (found_of matches.now)) (codes "progress") b →
@@ -125,11 +125,10 @@ pub fn node_args_of(matches: &ArgMatches<'_>) -> NodeArgs
     }
 }
 
-/// A node of these words, which answers the commands in the input until that ends. If there is a teller, it tells how
-/// the node gets on.
+/// Runs a node, which answers the commands in the input until that ends.
 ///
 /// If there is no job, nothing is answered; what was answered before a request that cannot be read stays.
-pub fn node_by<H: AllocGlobal, T: ProgressTeller, R: CountedRead, W: CountedWrite>(
+pub(crate) fn node_by<H: AllocGlobal, T: ProgressTeller, R: CountedRead, W: CountedWrite>(
     host: &Host<'_, H, T>,
     state: RandomState,
     args: &NodeArgs,

@@ -1,4 +1,4 @@
-//! The words of a job, which all commands share.
+//! The arguments of a job, which all subcommands share.
 
 ghost use Rattle.std.specs.Prelude.{◌≡◌, Bool, MatchOption, codes, option_map};
 ghost use Rattle.clap.specs.Words.{App, found_of, rows_of};
@@ -37,11 +37,12 @@ const COUNTED_HELP: &str =
     "Count only the vertices listed after the edge list and a line %%: how near are they?";
 
 /// The help of `--parts`, if it is no hint on how many cores a run takes.
-pub const PARTS_HELP: &str = "Partitions that vertices are dealt out to, 1 to 64 [default: 1]";
+pub(crate) const PARTS_HELP: &str =
+    "Partitions that vertices are dealt out to, 1 to 64 [default: 1]";
 
 /// The options that are not given: counters of 256 bytes, seed 0, one partition, the greatest limit, raw estimates, tabs, and
 /// as many threads as there are processors.
-pub const USUAL: JobOptions = JobOptions {
+pub(crate) const USUAL: JobOptions = JobOptions {
     log2m: 8,
     seed: 0,
     parts: 1,
@@ -53,21 +54,21 @@ pub const USUAL: JobOptions = JobOptions {
 };
 
 /// One of the names of the ways to make estimates.
-pub fn estimates<'a>() -> ValueParser<'a>
+pub(crate) fn estimates<'a>() -> ValueParser<'a>
     ensures { TakesNames estimate_names result }
 {
     ValueParser::Names(ESTIMATES.as_slice())
 }
 
 /// One of the names of the delimiters.
-pub fn delimiters<'a>() -> ValueParser<'a>
+pub(crate) fn delimiters<'a>() -> ValueParser<'a>
     ensures { TakesNames delimiter_names result }
 {
     ValueParser::Names(DELIMITERS.as_slice())
 }
 
 /// The arguments of a job, with the help of `--parts` and with parsers of estimates and of delimiters.
-pub fn job_arguments<'a>(
+pub(crate) fn job_arguments<'a>(
     parts_help: &'a str,
     estimates: ValueParser<'a>,
     delimiters: ValueParser<'a>,
@@ -87,7 +88,7 @@ pub fn job_arguments<'a>(
 }
 
 /// The delimiter of that name; if none is given it is the usual one.
-pub fn delimiter_of(name: Option<&str>) -> Delimiter
+pub(crate) fn delimiter_of(name: Option<&str>) -> Delimiter
     ensures { (d : Delimiter) → MatchOption (option_map (λ name. name.now) name.entry)
         (d ≡ Delimiter.Tab) (λ name. name ≡ delimiter_name d) → result ≡ d }
 {
@@ -99,7 +100,7 @@ pub fn delimiter_of(name: Option<&str>) -> Delimiter
 }
 
 /// The way to make estimates of that name; if none is given it is the usual one.
-pub fn estimate_of(name: Option<&str>) -> Estimate
+pub(crate) fn estimate_of(name: Option<&str>) -> Estimate
     ensures { (e : Estimate) → MatchOption (option_map (λ name. name.now) name.entry)
         (e ≡ Estimate.Raw) (λ name. name ≡ estimate_name e) → result ≡ e }
 {
@@ -109,9 +110,8 @@ pub fn estimate_of(name: Option<&str>) -> Estimate
     }
 }
 
-/// What words ask of a job, over a large edge list or a usual one, by so many threads. Values are as `clap` has checked
-/// them.
-pub fn job_input_of(matches: &ArgMatches<'_>, large: bool, threads: u16) -> JobInput
+/// What arguments, as `clap` has checked them, ask of a job: over a large edge list or a usual one, by `threads` threads.
+pub(crate) fn job_input_of(matches: &ArgMatches<'_>, large: bool, threads: u16) -> JobInput
     ensures { (job : JobInput) → AreJobOptionsOf (rows_of (found_of matches.now)) job →
         large ≡ job.options.large → threads ≡ job.options.threads → result ≡ job }
 {
@@ -132,14 +132,14 @@ pub fn job_input_of(matches: &ArgMatches<'_>, large: bool, threads: u16) -> JobI
 }
 
 /// Whether a large edge list is taken.
-pub fn wants_large(matches: &ArgMatches<'_>) -> bool
+pub(crate) fn wants_large(matches: &ArgMatches<'_>) -> bool
     ensures { (b : Bool) → IsFlag (rows_of (found_of matches.now)) (codes "large") b → result ≡ b }
 {
     matches.get_flag("large")
 }
 
 /// Whether progress is to be reported.
-pub fn wants_progress(matches: &ArgMatches<'_>) -> bool
+pub(crate) fn wants_progress(matches: &ArgMatches<'_>) -> bool
     ensures { (b : Bool) → IsFlag (rows_of (found_of matches.now)) (codes "progress") b →
         result ≡ b }
 {

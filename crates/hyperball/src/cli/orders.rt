@@ -12,7 +12,7 @@ use std::alloc::Global;
 
 /// Why a text is no list of orders.
 #[derive(Clone, Copy)]
-pub enum OrdersError {
+pub(crate) enum OrdersError {
     /// It is not of the form.
     Form,
     /// Memory was refused.
@@ -86,7 +86,7 @@ fn order_in(text: &str) -> Option<(NodeId, u32)>
 
 /// Whether a text is a list of orders: each P.K@S, for replica K of partition P at superstep S, with commas between them.
 /// Numbers are decimal, of at most 9 digits, without leading zeros. It takes no memory.
-pub fn are_orders(text: &str) -> bool
+pub(crate) fn are_orders(text: &str) -> bool
     ensures yes { result ≡ true → SpellsOrders text.now }
     ensures no { (os : List (Node × ℕ)) → result ≡ false → AreOrders text.now os → ⊥ }
 {
@@ -99,7 +99,7 @@ pub fn are_orders(text: &str) -> bool
 }
 
 /// The orders of a text. Memory is asked for once it is known that the text is a list of orders.
-pub fn orders_in(alloc: Global, text: &str) -> Result<Vec<(NodeId, u32)>, OrdersError>
+pub(crate) fn orders_in(alloc: Global, text: &str) -> Result<Vec<(NodeId, u32)>, OrdersError>
     ensures ok { IfOk result (λ os. AreOrders text.now os.items) }
     ensures read { (os : List (Node × ℕ)) → AreOrders text.now os →
         MatchResult result (λ found. found.items ≡ os) (λ e. e ≡ OrdersError.Memory) }

@@ -1,4 +1,4 @@
-//! The command `hyperball replay`: its words, and a replay of them.
+//! The subcommand `replay`: its arguments, and the answers to a script.
 
 ghost use Rattle.std.specs.Prelude.{◌≡◌, Bool, IfErr, IfOk, OnOk, codes};
 ghost use Rattle.clap.specs.Words.{found_of, rows_of};
@@ -74,19 +74,19 @@ const REPLICAS_HELP: &str = "Replicas of each partition, 1 to 4 [default: 1]";
 // How many replicas each partition has, if that is not said.
 const REPLICAS: u8 = 1;
 
-/// What the words of a replay say.
+/// The arguments of a replay.
 #[derive(Clone, Copy)]
-pub struct ReplayArgs {
+pub(crate) struct ReplayArgs {
     /// The options.
-    pub options: ReplayOptions,
+    pub(crate) options: ReplayOptions,
     /// Whether a list of counted vertices follows the edge list.
-    pub counted: bool,
+    pub(crate) counted: bool,
     /// Whether progress is to be reported.
-    pub progress: bool,
+    pub(crate) progress: bool,
 }
 
 /// The subcommand replay, with parsers of estimates and of delimiters.
-pub fn replay_command<'a>(
+pub(crate) fn replay_command<'a>(
     alloc: Global,
     estimates: ValueParser<'a>,
     delimiters: ValueParser<'a>,
@@ -105,8 +105,8 @@ pub fn replay_command<'a>(
     subcommand_of(alloc, &texts, &job, &[replicas, progress()])
 }
 
-/// The options of replay. Values are as `clap` has checked them.
-pub fn replay_args_of(matches: &ArgMatches<'_>) -> ReplayArgs
+/// The arguments of a replay, as `clap` has checked them.
+pub(crate) fn replay_args_of(matches: &ArgMatches<'_>) -> ReplayArgs
     ensures options { (w : ReplayArgs) → AreReplayOptionsOf (rows_of (found_of matches.now)) w →
         result ≡ w }
     ensures progress { (b : Bool) → IsFlag (rows_of (found_of matches.now)) (codes "progress") b →
@@ -132,13 +132,12 @@ pub fn replay_args_of(matches: &ArgMatches<'_>) -> ReplayArgs
     }
 }
 
-/// A replay of these words: the answers to the script in the input. If there is a teller, it tells how it gets on.
+/// Writes the answers to the script in the input.
 ///
-/// The faults come in the order of [`Fault`]. `Input(Read)` is answered if a call of the reader failed and at no
-/// other time, `Input(Size)` only if there are more than 2^26 bytes, and `Lacks` exactly if the input, read whole,
-/// lacks that part. After `Replay(Memory)` and `Replay(Write)` a beginning of the answers may be written; after every
-/// other fault nothing was written.
-pub fn replay_by<H: AllocGlobal, T: ProgressTeller, R: CountedRead, W: CountedWrite>(
+/// `Input(Read)` is answered if a call of the reader failed and at no other time, `Input(Size)` only if there are more
+/// than 2^26 bytes, and `Lacks` exactly if the input, read whole, lacks that part. After `Replay(Memory)` and
+/// `Replay(Write)` a beginning of the answers may be written; after every other fault nothing was written.
+pub(crate) fn replay_by<H: AllocGlobal, T: ProgressTeller, R: CountedRead, W: CountedWrite>(
     host: &Host<'_, H, T>,
     state: RandomState,
     args: &ReplayArgs,

@@ -1,4 +1,4 @@
-//! The command `hyperball run`: its words, and a run of them.
+//! The subcommand `run`: its arguments, and a run.
 
 ghost use Rattle.std.specs.Prelude.{◌≡◌, [], Err, IfErr, IfOk, IfSome, List, MatchOption};
 ghost use Rattle.std.specs.Prelude.{MatchResult, OnOk, codes, false, is_some, option_map};
@@ -132,15 +132,15 @@ const KEEP: u32 = 1;
 // After how many idle turns a replica gives up, if that is not said.
 const PATIENCE: u32 = 1_000_000;
 
-/// What the words of a run say.
+/// The arguments of a run.
 #[derive(Drop)]
-pub struct RunArgs {
+pub(crate) struct RunArgs {
     /// The options, with the lists of orders.
-    pub options: RunOptions,
+    pub(crate) options: RunOptions,
     /// Whether a list of counted vertices follows the edge list.
-    pub counted: bool,
+    pub(crate) counted: bool,
     /// Whether progress is to be reported.
-    pub progress: bool,
+    pub(crate) progress: bool,
 }
 
 // The arguments of run after those of its job.
@@ -162,7 +162,7 @@ fn run_arguments<'a>() -> [Argument<'a>; 9]
 }
 
 /// The subcommand run, with parsers of estimates and of delimiters.
-pub fn run_command<'a>(
+pub(crate) fn run_command<'a>(
     alloc: Global,
     estimates: ValueParser<'a>,
     delimiters: ValueParser<'a>,
@@ -244,7 +244,7 @@ fn orders_of(alloc: Global, matches: &ArgMatches<'_>) -> Result<(Orders, Orders)
     }
 }
 
-// What the words of a run say, with these lists of orders. Values are as `clap` has checked them.
+// The arguments of a run, as `clap` has checked them, with these lists of orders.
 fn args_with(matches: &ArgMatches<'_>, lose: Orders, restart: Orders) -> RunArgs
     ensures args { (w : RunArgs) → AreOptionsOf (rows_of (found_of matches.now)) w →
         with_lists_of w result ≡ w }
@@ -281,8 +281,8 @@ fn args_with(matches: &ArgMatches<'_>, lose: Orders, restart: Orders) -> RunArgs
     }
 }
 
-/// What the words of a run say.
-pub fn run_args(alloc: Global, matches: &ArgMatches<'_>) -> Result<RunArgs, WordsError>
+/// The arguments of a run, with its lists of orders.
+pub(crate) fn run_args(alloc: Global, matches: &ArgMatches<'_>) -> Result<RunArgs, WordsError>
     requires { has_subcommand matches.now ≡ true }
     ensures run { (w : RunArgs) → IsRunOf (subcommand_rows_of matches.now) w →
         IfOk result (λ v. with_lists_of w v ≡ w) }
@@ -305,7 +305,7 @@ pub fn run_args(alloc: Global, matches: &ArgMatches<'_>) -> Result<RunArgs, Word
     }
 }
 
-// A run over an input: what it runs on, what is asked of it, and who watches it.
+// A run over an input: the machine, what is asked of it, and its gate.
 #[derive(Drop)]
 struct Job<'a, H, G> {
     rt: &'a H,
@@ -347,12 +347,12 @@ fn run_listed<
     Ok(())
 }
 
-/// A run of these words: its report is written. If there is a teller, it tells how the run gets on.
+/// Runs the job in the input, and writes its report.
 ///
-/// The faults come in the order of [`Fault`]. After `Gate` and `Random` nothing was read or written. With a list of
-/// counted vertices the input is read whole ([`read_whole`]), and `Lacks` is answered exactly if no line is the mark;
-/// without one a failed read is answered exactly if a call of the reader failed (while failures can be counted).
-pub fn run_by<
+/// After `Gate` and `Random` nothing was read or written. With a list of counted vertices the input is read whole
+/// ([`read_whole`]), and `Lacks` is answered exactly if no line is the mark; without one a failed read is answered
+/// exactly if a call of the reader failed (while failures can be counted).
+pub(crate) fn run_by<
     H: AllocGlobal + Clock + RandomSource + Threads + Wait + Sync,
     T: ProgressTeller + Sync,
     R: CountedRead,

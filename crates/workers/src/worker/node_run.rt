@@ -37,7 +37,7 @@ use thiserror::Error;
 pub struct NodeOrders {
     /// It keeps a snapshot at each superstep that is a multiple of this, and none if it is 0.
     pub keep: u32,
-    /// After so many idle turns in succession it gives up.
+    /// The number of idle turns in succession after which it gives up.
     pub patience: u32,
     /// It is lost at this superstep, or at the first that it reaches after it.
     pub lose: Option<u32>,
@@ -248,11 +248,11 @@ impl<'a, R: AllocGlobal + Threads + Wait + Sync, G: Gate + Watch> Worker<'a, R, 
 
 /// Runs a node of a partition, from superstep 0 to its end.
 ///
-/// At each superstep it is lost or starts anew when an order falls due, keeps a snapshot, tells every other partition
-/// what changed, takes what they tell, and goes on. While a batch is missing it takes over a snapshot of a further
+/// At each superstep it is lost or starts anew when an order falls due, keeps a snapshot, posts what changed to every
+/// other partition, takes their batches, and closes. While a batch is missing it takes over a snapshot of a further
 /// superstep, if another node of its partition has kept one; else it idles until the history has grown. An error or an
 /// end leaves in the exchange the entries that were made before. If many vertices changed it shares a superstep with
-/// other threads: of the processors each partition has as many.
+/// other threads: its partition's share of the processors.
 ///
 /// [`BookFull`](NodeError::BookFull) if a call of the exchange is refused because the history is full,
 /// [`Memory`](NodeError::Memory) if a growth is refused, each as it happens.

@@ -71,7 +71,7 @@ fn is_kept_at(every: u32, superstep: u32) -> bool
     every != 0 && superstep % every == 0
 }
 
-// What another partition is sent of the superstep, as threads share it.
+// The batch of the superstep for another partition, as threads share it.
 fn shared_batch(
     alloc: Global,
     replica: &Replica,
@@ -88,8 +88,8 @@ fn shared_batch(
 }
 
 impl<'a, R: AllocGlobal + Threads + Wait + Sync, G: Gate + Watch> Worker<'a, R, G> {
-    /// Takes over the snapshot that is kept for the replica's partition, if its superstep is `at_least` so much; and
-    /// whether there is one.
+    /// Takes over the snapshot that is kept for the replica's partition, if it is of superstep `at_least` or later; and
+    /// returns whether there is one.
     pub(crate) fn catch_up<E: Exchange>(
         &self,
         exchange: &mut E,
@@ -152,7 +152,7 @@ impl<'a, R: AllocGlobal + Threads + Wait + Sync, G: Gate + Watch> Worker<'a, R, 
         Ok(())
     }
 
-    // Tells one other partition of the superstep.
+    // Posts the batch of the superstep for one other partition.
     fn tell<E: Exchange>(
         &self,
         exchange: &mut E,
@@ -181,7 +181,7 @@ impl<'a, R: AllocGlobal + Threads + Wait + Sync, G: Gate + Watch> Worker<'a, R, 
         Ok(())
     }
 
-    // Tells every other partition of the superstep; these are the rows that changed.
+    // Posts the batch of the superstep for every other partition, from the rows that changed.
     fn tell_each<E: Exchange>(
         &self,
         exchange: &mut E,
@@ -209,8 +209,8 @@ impl<'a, R: AllocGlobal + Threads + Wait + Sync, G: Gate + Watch> Worker<'a, R, 
         Ok(())
     }
 
-    // Tells every other partition of the superstep. The registers of the vertices that changed are copied once, into a
-    // table that all batches share; a partition that is alone copies nothing.
+    // Posts the superstep's batches for all other partitions. The registers of the vertices that changed are copied once,
+    // into a table that all batches share; a partition that is alone copies nothing.
     fn tell_all<E: Exchange>(
         &self,
         exchange: &mut E,
@@ -257,9 +257,8 @@ impl<'a, R: AllocGlobal + Threads + Wait + Sync, G: Gate + Watch> Worker<'a, R, 
         Ok(())
     }
 
-    // Idle turns, until the history is no longer of that length, or nothing can come from the source any more, or there
-    // were so many of them; and whether it has grown, by a last look. (Who ends has posted before: so the length is looked
-    // at once more.)
+    // Idles until the history is no longer of that length, nothing can come from the source any more, or patience is at
+    // its end; and returns whether it has grown. (A node posts before it ends: so the length is looked at once more.)
     fn has_grown<E: Exchange>(&self, exchange: &mut E, source: u16, before: u64) -> bool
         requires caller { IsCaller (E.caller exchange.old) }
         ensures seen { Extends (E.caller exchange.old) (E.caller exchange.new) }
@@ -314,8 +313,8 @@ impl<'a, R: AllocGlobal + Threads + Wait + Sync, G: Gate + Watch> Worker<'a, R, 
         Ok(true)
     }
 
-    // Takes what the others tell of the superstep, until the level is held, or a further snapshot is found, or it was
-    // waited for a batch in vain.
+    // Takes the batches of the superstep, until the level is held, a snapshot of a further superstep is taken over, or a
+    // wait for a batch was in vain.
     fn hear_all<E: Exchange>(
         &self,
         exchange: &mut E,
@@ -376,7 +375,7 @@ impl<'a, R: AllocGlobal + Threads + Wait + Sync, G: Gate + Watch> Worker<'a, R, 
         }
     }
 
-    /// A superstep of a node: it keeps what it has, tells all others, takes what they tell, and goes on.
+    /// A superstep of a node: it keeps a snapshot, posts its batches, takes those of the others, and closes.
     pub(crate) fn run_superstep<E: Exchange>(
         &self,
         exchange: &mut E,
