@@ -21,8 +21,8 @@ pub(crate) mod orders;
 pub(crate) mod replay;
 pub(crate) mod run;
 
-use crate::cli::gather::{GatherArgs, gather_command, gather_args_of};
-use crate::cli::one_node::{NodeArgs, node_command, node_args_of};
+use crate::cli::gather::{GatherArgs, gather_args_of, gather_command};
+use crate::cli::one_node::{NodeArgs, node_args_of, node_command};
 use crate::cli::options::{delimiters, estimates};
 use crate::cli::orders::OrdersError;
 use crate::cli::replay::{ReplayArgs, replay_args_of, replay_command};
