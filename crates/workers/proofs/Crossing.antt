@@ -7,7 +7,7 @@ use Rattle.board.proofs.Crossing.{seat_send}
 use Rattle.graph.proofs.Crossing.{shared_part_send}
 use Rattle.replica.proofs.Crossing.{first_send, targets_send}
 use Rattle.workers.specs.contracts.indexed.ReadyPart as ready
-use Rattle.workers.specs.contracts.job.Seated as seated
+use Rattle.workers.specs.contracts.nodes.Seated as seated
 use Rattle.workers.specs.contracts.running.Running as running
 
 ready_part_send : IsSend ready.the_row

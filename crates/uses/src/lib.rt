@@ -1,0 +1,9 @@
+//! Callers of the libraries, each of a few lines and proved: one file for each crate that it shows.
+#![tactic(auto)]
+
+pub mod of_ball_model;
+pub mod of_batches;
+pub mod of_figures;
+pub mod of_gapcode;
+pub mod of_graph;
+pub mod of_registers;
