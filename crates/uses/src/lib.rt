@@ -8,3 +8,4 @@ pub mod of_figures;
 pub mod of_gapcode;
 pub mod of_graph;
 pub mod of_registers;
+pub mod of_replica;
