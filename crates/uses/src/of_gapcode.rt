@@ -1,11 +1,11 @@
-//! Lists of ascending numbers as gap codes, and single codes.
+//! Lists of ascending numbers as gap codes, places of pieces, and single codes.
 
 ghost use Rattle.std.specs.Prelude.{◌≡◌, ◌<◌, ◌++◌, [], length, map, slice_index_or, IfOk};
 ghost use Rattle.std.specs.List.{All};
 ghost use Rattle.gapcode.specs.Bits.{AreBytesOf, gamma, rest};
 ghost use Rattle.gapcode.specs.Lists.{AreSpelled, AscendsFrom, IsSpelling};
 
-use gapcode::{BitReader, BitWriter, CodeError, Lists, get_gamma, put_gamma};
+use gapcode::{BitReader, BitWriter, CodeError, Lists, Places, get_gamma, put_gamma};
 use std::alloc::{AllocError, Global};
 
 /// How many numbers one of the lists has, of lists kept as gap codes.
@@ -33,6 +33,14 @@ pub fn predecessors(alloc: Global, bytes: &[u8], vertices: u32) -> Result<Lists,
     ensures { IfOk result (AreSpelled vertices vertices bytes.now) }
 {
     Lists::read(alloc, bytes, vertices as usize, vertices)
+}
+
+/// Where the second of two pieces begins, if the first one has 12 bits.
+pub fn second_place(alloc: Global) -> Result<u128, AllocError>
+    ensures { IfOk result (λ place. place ≡ 12) }
+{
+    let places = Places::with_room(alloc, 2)?.push(0)?.push(12)?;
+    Ok(places.at(1))
 }
 
 /// The gamma code of a number, padded with zero bits.
