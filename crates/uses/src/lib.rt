@@ -9,3 +9,4 @@ pub mod of_gapcode;
 pub mod of_graph;
 pub mod of_registers;
 pub mod of_replica;
+pub mod of_report;
