@@ -3,6 +3,8 @@
 
 pub mod of_ball_model;
 pub mod of_batches;
+pub mod of_board;
+pub mod of_checkpoint;
 pub mod of_edgelist;
 pub mod of_figures;
 pub mod of_gapcode;
