@@ -27,7 +27,7 @@ pub fn batch_of_one(alloc: Global, plan: &Plan, v: u32, row: &[u8]) -> Result<Ba
 }
 
 /// Whether a batch has a row of the vertex.
-pub fn names(batch: &Batch, v: u32) -> bool
+pub fn has_row(batch: &Batch, v: u32) -> bool
     ensures { result ≡ is_some (find_row batch.now.rows v) }
 {
     batch.find(v).is_some()

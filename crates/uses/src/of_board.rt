@@ -29,7 +29,7 @@ pub fn board_for_two(
     Ok((board, first, second))
 }
 
-/// One seat posts a true batch, and the other fetches what is there under its name: that is true too.
+/// One seat posts a true batch. What another then finds under that name is a true batch, too.
 pub fn post_and_fetch<R: Wait>(
     rt: &R,
     board: &Board,
