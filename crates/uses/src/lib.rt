@@ -9,6 +9,7 @@ pub mod of_edgelist;
 pub mod of_figures;
 pub mod of_gapcode;
 pub mod of_graph;
+pub mod of_job;
 pub mod of_registers;
 pub mod of_replica;
 pub mod of_report;

@@ -48,7 +48,7 @@ pub fn post_and_fetch<R: Wait>(
     board.fetch(rt, second, name)
 }
 
-/// A thread has ended: its seat ends too, and the other seat has then seen what it had. The answer is how many entries
+/// A thread has ended, and its seat is joined to another, which has then seen what it had. The answer is how many entries
 /// that one has seen.
 pub fn join_and_count(board: &Board, seat: &mut Seat, ended: Seat) -> u64
     requires seat { IsAt board.now seat.old }

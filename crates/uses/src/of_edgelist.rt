@@ -1,12 +1,11 @@
-//! Edge lists, and the jobs over them.
+//! Edge lists.
 
-ghost use Rattle.std.specs.Prelude.{◌≡◌, IfOk, IfSome, Ok};
+ghost use Rattle.std.specs.Prelude.{◌≡◌, IfOk, Ok};
 ghost use Rattle.ball_model.specs.Input.{IsPlain};
-ghost use Rattle.ball_model.specs.Job.{IsJob, job_of};
 ghost use Rattle.edgelist.specs.Reading.{meaning_of};
 
-use ball_model::{CountedRead, MemReader, Plan};
-use edgelist::{Delimiter, EdgeError, EdgeLimits, Graph, JobOptions, read_edges};
+use ball_model::MemReader;
+use edgelist::{Delimiter, EdgeError, EdgeLimits, Graph, read_edges};
 use std::alloc::Global;
 use std::hash::RandomState;
 
@@ -22,21 +21,4 @@ pub fn graph_of(
 {
     let mut reader = MemReader::new(text, None);
     read_edges(alloc, state, &mut reader, Delimiter::Tab, limits)
-}
-
-/// The graph and the plan of a job over an edge list, of whose vertices the listed ones count.
-pub fn job<R: CountedRead>(
-    alloc: Global,
-    state: RandomState,
-    options: &JobOptions,
-    reader: &mut R,
-    counted: &[u8],
-) -> Option<(Graph, Plan)>
-    ensures { IfSome result (λ job. IsJob (job_of job.0.graph job.1)) }
-{
-    let read = options
-        .read_network(alloc, state, reader, Some(counted))
-        .ok()?;
-    let plan = options.plan(&read.graph).ok()?;
-    Some((read.graph, plan))
 }
