@@ -11,17 +11,7 @@
 //! [`MemWriter`] are streams over memory that fail from a chosen call on. [`put_all`] writes all of some bytes, and
 //! [`fill`] reads until a buffer is full or the input ends.
 //!
-//! ```text
-//! let plan = Plan::new(4, 0, 3, 100, 8, job)?;
-//! plan.width()                      // 16 registers
-//! plan.partition_of(7)              // 1
-//! plan.part_size(1)                 // 3: the vertices 1, 4 and 7
-//! place(4, mix(0, 0))               // (14, 3): vertex 0 falls into register 14 with rank 3
-//!
-//! let mut reader = MemReader::new(b"abc", Some(2));
-//! reader.get(&mut [0; 2])           // Some(2)
-//! reader.get(&mut [0; 2])           // None, and reader.failures() is 1
-//! ```
+//! Proved callers: `uses::of_ball_model::{register_of, size_around, earlier_name, failures_of_two, copied}`.
 #![tactic(auto)]
 
 ghost use Rattle.std.specs.Prelude.{◌≡◌, ◌≤◌, ◌<◌, ◌^◌};

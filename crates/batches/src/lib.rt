@@ -8,16 +8,7 @@
 //! The rows of a batch are its own, or lie in a table that several batches share ([`Batch::sharing`]): then a row is
 //! kept once for all its targets.
 //!
-//! ```text
-//! let mut batch = Batch::start(alloc, &plan, name, 2)?;   // 2 vertices of its source are changed
-//! batch.push(0, &row)?;                                   // vertex 0 has an edge into the target
-//! batch.find(0)                                           // Some: its registers
-//! batch.find(2)                                           // None
-//!
-//! let bytes = batch.encode(alloc)?;                       // "HBBT", version, name, .., and each row
-//! Batch::decode(alloc, &plan, &bytes)                     // Ok: the same batch
-//! Batch::decode(alloc, &plan, &bytes[1..])                // Err: BatchError::Magic
-//! ```
+//! Proved callers: `uses::of_batches::{batch_of_one, has_row, bytes_of, batch_from}`.
 #![tactic(auto)]
 
 mod batch;

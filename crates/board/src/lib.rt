@@ -12,14 +12,7 @@
 //!   seat B saw    |-------------|                    write the length, serve the next ticket
 //! ```
 //!
-//! ```text
-//! let (board, mut first) = Board::open(alloc, &graph, &plan, 1000)?;
-//! let mut second = first.split(&board);            // for another thread
-//! board.post(rt, &mut first, batch)?               // New: the name is there from now on
-//! board.fetch(rt, &mut second, name)?              // Some(batch)
-//! board.join(&mut first, second);                  // the first has seen what the second had
-//! board.length(&mut first)                         // 3: the opening, the post and the fetch
-//! ```
+//! Proved callers: `uses::of_board::{board_for_two, post_and_fetch, join_and_count}`.
 //!
 //! Calls take turns by a ticket lock over three words, and what they ask lies in one slot, the book: the entries, the
 //! floor, the batches by name, and the furthest snapshot of each partition. A call holds its turn for its own work

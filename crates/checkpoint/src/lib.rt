@@ -5,11 +5,7 @@
 //! SHA-256 of all bytes follows them. What is written is a definition of `ball_model`. [`read_checkpoint`] reads it, and
 //! what version 1 wrote, which has no batches.
 //!
-//! ```text
-//! let mut writer = MemWriter::with_room(alloc, checkpoint_length(&replica) as usize, None)?;
-//! write_checkpoint(&replica, &mut writer)?;
-//! read_checkpoint(alloc, part, &mut MemReader::new(&writer.into_bytes(), None))?    // the same replica
-//! ```
+//! A proved caller: `uses::of_checkpoint::kept`.
 #![tactic(auto)]
 
 mod error;

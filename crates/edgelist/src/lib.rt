@@ -5,12 +5,7 @@
 //! whose names are handed on here. [`read_edge_list_by`] reads by threads, and calls a [`ReadWatch`]. What a job asks for is
 //! read by the crate `job`.
 //!
-//! ```text
-//! let mut reader = CountingReader::new(stdin);
-//! let read = read_edge_list(alloc, state, &mut reader, Delimiter::Tab, LIMITS)?;
-//! let plan = read.graph.plan(8, 0, 1, 4096)?;
-//! let part = read.graph.part(alloc, &plan, 0)?;
-//! ```
+//! A proved caller: `uses::of_edgelist::graph_of`.
 //!
 //! If something follows the edge list, its reader gives the bytes of the edge list to an [`EdgeReader`].
 #![tactic(auto)]

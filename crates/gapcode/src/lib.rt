@@ -9,14 +9,7 @@
 //! Below them, [`BitWriter`] with [`put_gamma`] and [`BitReader`] with [`get_gamma`] write and read single codes, and
 //! [`Places`] keeps where each of many pieces begins that lie one after another.
 //!
-//! ```text
-//! let lists = ListsBuilder::with_room(alloc, 1)?.push(&[0, 2, 5])?.finish();
-//! lists.list(0)   // 0, 2, 5
-//! lists.bytes()   // 0x25, 0x30
-//!
-//! let places = Places::with_room(alloc, 2)?.push(0)?.push(12)?;
-//! places.at(1)    // 12
-//! ```
+//! Proved callers: `uses::of_gapcode::{length_of, spelled, predecessors, second_place, code_of, next_two}`.
 #![tactic(auto)]
 
 mod check;

@@ -12,17 +12,7 @@
 //! Nothing here limits a register to the ranks of a hash: what is at most 33 stays so, since a maximum makes no
 //! new numbers.
 //!
-//! ```text
-//! max_into(&mut [0, 5, 33], &[1, 4, 33])         // true: 1, 5, 33
-//!
-//! let mut rows = Rows::fixed(alloc, 2, 16)?;     // two rows of 16 zeros
-//! rows.raise_one(1, 14, 3)                       // true: its register 14 becomes 3
-//! rows.empty_count(1)                            // 15
-//!
-//! left.insert(2);                                // two masks, of source 2 and of source 7
-//! right.insert(7);
-//! reconcile(alloc, &mut left, &mut right)?;      // both have sources 2 and 7
-//! ```
+//! Proved callers: `uses::of_registers::{add_counter, empty_after_one, still_missing, share_sources}`.
 #![tactic(auto)]
 
 ghost use Rattle.std.specs.Prelude.{◌≡◌, ◌↔◌, length, false};

@@ -25,13 +25,7 @@
 //! with the rows and figures of that one, and holds each batch of its window that either held. What is taken over is
 //! true if both were.
 //!
-//! ```text
-//! let mut replica = Replica::new(alloc, part)?;      // superstep 0
-//! replica.out(alloc, 1)?                             // what partition 1 is sent of superstep 0
-//! replica.close()                                    // Err: CloseError::Waiting { source: 1 }
-//! replica.take(batch)                                // Ok: Taken::New, the batch of partition 1
-//! replica.close()                                    // Ok(1), the superstep that it is at now
-//! ```
+//! Proved callers: `uses::of_replica::{first_batch, take_and_close, counter_of, share}`.
 //!
 //! Only the making of [`Targets`], [`FirstTables`] and a [`Replica`], [`Replica::out`], [`Replica::changed_rows`],
 //! [`Replica::out_of`], [`Replica::snapshot`], [`Replica::merge`] and a join take memory, and [`Replica::close_by`]
