@@ -3,10 +3,10 @@
 ghost use Rattle.std.specs.Prelude.{IfSome};
 ghost use Rattle.ball_model.specs.Job.{IsJob, job_of};
 ghost use Rattle.ball_model.specs.RunText.{AreRead};
-ghost use Rattle.edgelist.specs.Job.{WherePlain, settings_of};
+ghost use Rattle.job.specs.Job.{WherePlain, settings_of};
 
 use ball_model::{CountedRead, Plan};
-use edgelist::JobOptions;
+use job::JobOptions;
 use graph::Graph;
 use std::alloc::Global;
 use std::hash::RandomState;
