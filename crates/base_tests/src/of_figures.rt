@@ -1,6 +1,6 @@
 //! Estimates, figures and their text.
 
-ghost use Rattle.std.specs.Prelude.{◌≡◌, ◌≤◌, length};
+ghost use Rattle.std.specs.Prelude.{◌≡◌, ◌≤◌, ◌<◌, length};
 ghost use Rattle.std.specs.List.{All};
 ghost use Rattle.ball_model.specs.declared.plan.TheConstants.{GREATEST_RANK};
 
@@ -235,14 +235,14 @@ fn are_told(figures: &[Figures], wanted: &[(u64, u64, u64, u128, u32)]) -> bool 
 // The figures of the vertices at some places are these, by two threads at most.
 fn figures_are<H: AllocGlobal + Threads + Sync>(
     rt: &H,
-    rows: &Rows,
+    weights: &[u64],
     tallies: &[Tally],
     places: Range<usize>,
     wanted: &[(u64, u64, u64, u128, u32)],
 ) -> Result<bool, Fail>
-    requires count { length tallies.now ≡ length rows.now.rows }
+    requires count { length tallies.now ≡ length weights.now }
 {
-    let figures = figures_within(rt, rows, tallies, places, 2)?;
+    let figures = figures_within(rt, weights, tallies, places, 2)?;
     Ok(are_told(&figures, wanted))
 }
 
@@ -259,6 +259,15 @@ fn raw_figures_are<H: AllocGlobal + Threads + Sync>(
 {
     let figures = final_figures(rt, rt.alloc(), 4, rows, tallies)?;
     Ok(are_told(&figures, wanted))
+}
+
+// The weight of one of the rows.
+fn weight_at(rows: &Rows, i: usize) -> u64
+    requires row { i < length rows.now.rows }
+    requires width { rows.now.width ≡ 16 }
+    requires ranks { All (λ row. All (λ r. r ≤ GREATEST_RANK) row) rows.now.rows }
+{
+    weight(4, rows.row(i))
 }
 
 // The tallies of three vertices: the last one has gained.
@@ -289,9 +298,10 @@ fn rows_are_told<H: AllocGlobal + Threads + Sync>(rt: &H, rows: &Rows) -> Result
     requires ranks { All (λ row. All (λ r. r ≤ GREATEST_RANK) row) rows.now.rows }
 {
     let tallies = three_tallies();
+    let weights = [weight_at(rows, 0), weight_at(rows, 1), weight_at(rows, 2)];
     let raw = raw_figures_are(rt, rows, &tallies, &RAW_THREE)?;
-    let all = figures_are(rt, rows, &tallies, 0..3, &THREE)?;
-    let later = figures_are(rt, rows, &tallies, 1..9, &THREE[1..])?;
+    let all = figures_are(rt, &weights, &tallies, 0..3, &THREE)?;
+    let later = figures_are(rt, &weights, &tallies, 1..9, &THREE[1..])?;
     Ok([raw, all, later])
 }
 
@@ -382,13 +392,11 @@ fn are_in_order(figures: &[Figures]) -> bool {
 // The figures of vertices come in the order of their tallies, by at most that many threads.
 fn come_by<H: AllocGlobal + Threads + Sync>(
     rt: &H,
-    rows: &Rows,
     tallies: &[Tally],
     threads: usize,
-) -> Result<bool, Fail>
-    requires count { length tallies.now ≡ length rows.now.rows }
-{
-    let all = figures_within(rt, rows, tallies, 0..5000, threads)?;
+) -> Result<bool, Fail> {
+    let weights = vec![in rt.alloc(); 1u64 << 54; tallies.len()]?;
+    let all = figures_within(rt, &weights, tallies, 0..5000, threads)?;
     Ok(are_in_order(&all))
 }
 
@@ -406,8 +414,8 @@ fn tallies_come_in_order<H: AllocGlobal + Threads + Sync>(
         return Err(Fail::new("a tally for each row"));
     }
     let all = final_figures(rt, rt.alloc(), 4, rows, tallies)?;
-    let alone = come_by(rt, rows, tallies, 1)?;
-    let shared = come_by(rt, rows, tallies, 3)?;
+    let alone = come_by(rt, tallies, 1)?;
+    let shared = come_by(rt, tallies, 3)?;
     Ok(are_in_order(&all) && alone && shared)
 }
 

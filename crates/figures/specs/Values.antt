@@ -1,8 +1,9 @@
 -- What a tally of the program says, as the definitions say it, and the figures that are made of it.
 use Rattle.std.specs.Prelude.{◌≡◌, ℕ, ◌+◌, ◌-◌, ◌*◌, ◌/◌, ◌%◌, ◌^◌, ◌≤◌, ◌<◌, ◌≢◌, Bool, true, min, List, [], length, map, take, drop, slice_index, slice_index_or}
-use Rattle.std.specs.List.{range_with_len, zip}
+use Rattle.std.specs.List.{All, range_with_len, zip}
 use Rattle.std.specs.Simd.Lanes.{chunk}
 use Rattle.ball_model.specs.Figures.{TallyValue, tally_of, closeness_of, lin_of, empty_of, estimate_of, inverse_sum, draws_of, small_bound}
+use Rattle.ball_model.specs.declared.plan.TheConstants.{MOST_REGISTERS}
 use Rattle.figures.specs.declared.estimates.TheConstants.{EMPTY}
 use Rattle.figures.specs.declared.tally.Tally.{Tally}
 use Rattle.figures.specs.declared.ends.Figures.{Figures}
@@ -23,6 +24,11 @@ small_table m = map (λ z. min (draws_of m z) (small_bound m)) (range_with_len 0
 -- each that is 0
 abbrev pub weight_of : List ℕ → ℕ
 weight_of row = inverse_sum row + EMPTY * empty_of row
+
+-- the weights of rows of at most 1024 registers
+pub record AreWeighed (rows : List (List ℕ)) (weights : List ℕ) : Type 0 where
+  pub each : weights ≡ map weight_of rows
+  pub short : All (λ row. length row ≤ MOST_REGISTERS) rows
 
 -- it may be the weight of a counter of 2^log2m registers
 pub record IsWeight (log2m weight : ℕ) : Type 0 where
@@ -71,3 +77,8 @@ items_between start end items = take (end - start) (drop start items)
 abbrev pub AreFiguresAt : ℕ → List (List ℕ) → List Tally → ℕ → Tally → Figures → Type 0
 AreFiguresAt e rows tallies i d figures =
     figures ≡ figures_of e (slice_index_or rows i []) (value_of (slice_index_or tallies i d))
+
+-- the figures are those of a row with this weight and of the tally, whose estimate they take
+abbrev pub AreFiguresBy : ℕ → Tally → Figures → Type 0
+AreFiguresBy weight tally figures = (row : List ℕ) → length row ≤ MOST_REGISTERS →
+    weight ≡ weight_of row → figures ≡ figures_of tally.last row (value_of tally)

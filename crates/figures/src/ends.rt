@@ -1,14 +1,15 @@
 //! The figures of many vertices, in threads.
 
-ghost use Rattle.std.specs.Prelude.{◌≡◌, ◌≤◌, ◌<◌, ◌*◌, ◌^◌, [], IfOk, length, map};
-ghost use Rattle.std.specs.Prelude.{slice_index_or};
+ghost use Rattle.std.specs.Prelude.{◌≡◌, ◌≤◌, ◌<◌, ◌*◌, ◌^◌, ℕ, List, [], IfOk, length, map};
+ghost use Rattle.std.specs.Prelude.{slice_index, slice_index_or};
 ghost use Rattle.std.specs.List.{All};
 ghost use Rattle.ball_model.specs.declared.plan.TheConstants.{GREATEST_RANK};
-ghost use Rattle.ball_model.specs.Figures.{estimate_of};
+ghost use Rattle.ball_model.specs.Figures.{closeness_of, estimate_of, lin_of};
 ghost use Rattle.figures.specs.declared.tally.Tally.{Tally};
-ghost use Rattle.figures.specs.Values.{AreFiguresAt, figures_from, items_between, raw_figures_from};
-ghost use Rattle.figures.specs.Values.{value_of};
+ghost use Rattle.figures.specs.Values.{AreFiguresAt, AreFiguresBy, AreWeighed, figures_from};
+ghost use Rattle.figures.specs.Values.{items_between, raw_figures_from, value_of};
 
+use super::estimates::EMPTY;
 use super::{Tally, closeness, estimate, lin};
 use rayon::iter::plumbing::LEAST_PIECE;
 use rayon::prelude::*;
@@ -83,20 +84,25 @@ fn least_piece(count: usize, threads: usize) -> usize
     count.div_ceil(threads).max(LEAST_PIECE)
 }
 
-/// The figures of the vertices at these places, as far as there are such: for callers that have no room for all. Here
-/// the estimate is the tally's last one, raw or corrected as the tally was stepped.
+/// The figures of the vertices at these places, as far as there are such: for callers that have no room for all.
+///
+/// No row is read: the weight of each ([`weight`]) says how many of its registers are 0, and the estimate is the tally's
+/// last one, raw or corrected as the tally was stepped.
 ///
 /// The work is dealt out to at most `threads` threads; if that is 0, to as many as there are processors.
+///
+/// [`weight`]: crate::weight
 pub fn figures_within(
     rt: &(impl AllocGlobal + Threads + Sync),
-    rows: &Rows,
+    weights: &[u64],
     tallies: &[Tally],
     places: Range<usize>,
     threads: usize,
 ) -> Result<Vec<Figures>, AllocError>
-    requires count { length tallies.now ≡ length rows.now.rows }
-    ensures { IfOk result (λ v. v.items ≡ items_between places.start places.end
-        (figures_from rows.now.rows (map value_of tallies.now))) }
+    requires count { length tallies.now ≡ length weights.now }
+    ensures { IfOk result (λ v. (rows : List (List ℕ)) → AreWeighed rows weights.now →
+        v.items ≡ items_between places.start places.end
+        (figures_from rows (map value_of tallies.now))) }
 {
     let end = places.end.min(tallies.len());
     let piece = least_piece(end.saturating_sub(places.start), threads);
@@ -106,10 +112,10 @@ pub fn figures_within(
         .map(
             |i: usize| -> Figures
                 requires tally { i < length tallies.now }
-                requires row { i < length rows.now.rows }
-                ensures { (d : Tally) → AreFiguresAt (slice_index_or tallies.entry.now i d).last
-                    rows.entry.now.rows tallies.entry.now i d result }
-            { figures_at(tallies[i].last, rows, tallies, i) },
+                requires weight { i < length weights.now }
+                ensures { (d : Tally) → AreFiguresBy (slice_index weights.entry.now i)
+                    (slice_index_or tallies.entry.now i d) result }
+            { figures_by(weights[i], tallies[i]) },
         )
         .collect(rt, rt.alloc())
 }
@@ -120,12 +126,31 @@ fn figures_at(estimate: u64, rows: &Rows, tallies: &[Tally], i: usize) -> Figure
     requires row { i < length rows.now.rows }
     ensures { (d : Tally) → AreFiguresAt estimate rows.now.rows tallies.now i d result }
 {
-    let tally = tallies[i];
+    figures_with(estimate, tallies[i], rows.empty_count(i))
+}
+
+// The figures of a vertex whose row has this weight.
+fn figures_by(weight: u64, tally: Tally) -> Figures
+    ensures { AreFiguresBy weight tally result }
+{
+    figures_with(tally.last, tally, (weight / EMPTY) as u32)
+}
+
+// The figures of a vertex: of the estimate of its ball, its tally, and how many registers of its row are 0.
+fn figures_with(estimate: u64, tally: Tally, empty: u32) -> Figures
+    ensures { result ≡ record {
+      estimate = estimate;
+      harmonic = tally.harm;
+      closeness = closeness_of tally.dist;
+      lin = lin_of estimate tally.dist;
+      empty = empty;
+    } }
+{
     Figures {
         estimate,
         harmonic: tally.harm,
         closeness: closeness(tally.dist),
         lin: lin(estimate, tally.dist),
-        empty: rows.empty_count(i),
+        empty,
     }
 }

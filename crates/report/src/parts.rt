@@ -58,7 +58,7 @@ fn own_figures<T: AllocGlobal + Threads + Sync>(
     ensures size { HasSize replica.now }
 {
     replica.limits();
-    figures_within(rt, replica.rows(), replica.tallies(), places, threads)
+    figures_within(rt, replica.weights(), replica.tallies(), places, threads)
 }
 
 // Puts these of each replica into `parts`, which is empty.

@@ -11,6 +11,7 @@ ghost use Rattle.ball_model.specs.Job.{Job, IsJob, part_of};
 ghost use Rattle.ball_model.specs.Batches.{IsTrueBatch};
 ghost use Rattle.ball_model.specs.Content.{Content, is_new, close_of, after_close};
 ghost use Rattle.ball_model.specs.State.{SameShown, StandsFor, content_of, further};
+ghost use Rattle.figures.specs.Values.{AreWeighed};
 ghost use Rattle.replica.specs.Change.{HoldsAfter, take_answer};
 ghost use Rattle.replica.specs.First.{BeginsAs};
 ghost use Rattle.replica.specs.Index.{targets_of};
@@ -232,6 +233,14 @@ impl Replica {
     ) -> Result<u32, CloseError> {
         self.stage
             .close_level(team, &self.targets, &self.estimator, &mut self.weights)
+    }
+
+    /// The weight of each vertex's row, which its estimate is made of, as [`figures::weight`] has it.
+    pub fn weights(&self) -> &[u64]
+        ensures { AreWeighed self.now.rows result.now }
+    {
+        self.limits();
+        &self.weights
     }
 
     /// Gives back the memory that a run that is over needs no more: that of the index, that of the accumulators if

@@ -15,7 +15,7 @@ pub returns-clause-value : goal.returns-clause-value
 unfolding figures_among figures_in
 returns-clause-value g c =
     let v = c.args.replica.now in
-    IfOk-weaker c.figures_within.result _ _ (λ own h. h ∙ rw (c.rows.ensures.value, c.tallies.ensures.value) refl) c.figures_within.ensures
+    IfOk-weaker c.figures_within.result _ _ (λ own h. h v.rows c.weights.ensures ∙ rw c.tallies.ensures.value refl) c.figures_within.ensures
 
 -- as many figures as rows, and as many rows as vertices
 has_size : (v : State) → IsState v → HasSize v
