@@ -6,8 +6,8 @@ ghost use Rattle.ball_model.specs.RunText.{AreRead};
 ghost use Rattle.job.specs.Job.{WherePlain, settings_of};
 
 use ball_model::{CountedRead, Plan};
-use job::JobOptions;
 use graph::Graph;
+use job::JobOptions;
 use std::alloc::Global;
 use std::hash::RandomState;
 
