@@ -192,7 +192,6 @@ pub(crate) fn read_words(alloc: Global, words: &[String]) -> Result<Subcommand, 
     ensures found { IfOk result (IsOfWords (texts_of words.now)) }
     ensures faults { (kinds : List ErrorKind) → HasFaults (texts_of words.now) kinds →
         FailsWith kinds result }
-    // Lists of orders are refused only if one is not of its form, and memory for them only if each is.
     ensures lists { (e : OrdersError) → result ≡ Err (WordsError.Orders e) →
         RefusesOrders (texts_of words.now) e }
 {

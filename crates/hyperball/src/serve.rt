@@ -256,7 +256,6 @@ pub fn serve<
     ensures one { result ≡ 1 → LeavesFault (texts_of words.now)
         (reads_of R.remaining R.failed_calls R.sure_calls reader.old reader.new)
         (writes_of W.contents W.failed_calls writer.old writer.new) }
-    // If clap accepts the words, status 2 comes only from a list of orders that is not of its form.
     ensures two { result ≡ 2 → EndsMistaken (texts_of words.now)
         (reads_of R.remaining R.failed_calls R.sure_calls reader.old reader.new)
         (writes_of W.contents W.failed_calls writer.old writer.new) }

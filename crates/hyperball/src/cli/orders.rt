@@ -103,7 +103,6 @@ pub(crate) fn orders_in(alloc: Global, text: &str) -> Result<Vec<(NodeId, u32)>,
     ensures ok { IfOk result (λ os. AreOrders text.now os.items) }
     ensures read { (os : List (Node × ℕ)) → AreOrders text.now os →
         MatchResult result (λ found. found.items ≡ os) (λ e. e ≡ OrdersError.Memory) }
-    // Memory is refused only to a list of orders.
     ensures memory { result ≡ Err OrdersError.Memory → SpellsOrders text.now }
 {
     if !are_orders(text) {

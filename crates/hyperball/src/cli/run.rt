@@ -201,12 +201,10 @@ fn listed_orders(alloc: Global, text: Option<&str>) -> Result<Vec<(NodeId, u32)>
         (os.items ≡ []) (λ text. AreOrders text os.items)) }
     ensures form { IfErr result (λ e. e ≡ OrdersError.Form →
         is_some (option_map (λ text. text.now) text.entry) ≡ true) }
-    // A list that is of its form is not refused.
     ensures read { (os : List (NodeId × ℕ)) →
         MatchOption (option_map (λ text. text.now) text.entry)
         (os ≡ []) (λ text. AreOrders text os) →
         MatchResult result (λ found. found.items ≡ os) (λ e. e ≡ OrdersError.Memory) }
-    // Memory is refused only to a list that is of its form.
     ensures memory { IfErr result (λ e. e ≡ OrdersError.Memory →
         MatchOption (option_map (λ text. text.now) text.entry) ⊥ SpellsOrders) }
 {
@@ -225,7 +223,6 @@ fn orders_of(alloc: Global, matches: &ArgMatches<'_>) -> Result<(Orders, Orders)
         AreListed (rows_of (found_of matches.now)) os.0.items os.1.items) }
     ensures form { IfErr result (λ e. e ≡ OrdersError.Form →
         AreOrdersIn (rows_of (found_of matches.now))) }
-    // A list is refused only if one is not of its form, and memory only if both are.
     ensures misspelt { IfErr result (λ e. e ≡ OrdersError.Form →
         SpellLists (rows_of (found_of matches.now)) → ⊥) }
     ensures memory { IfErr result (λ e. e ≡ OrdersError.Memory →
