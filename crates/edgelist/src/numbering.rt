@@ -3,8 +3,6 @@
 ghost use Rattle.std.specs.Prelude.{◌≡◌, ◌^◌, ◌<◌, ◌≤◌, ℕ, List, length, replicate};
 ghost use Rattle.std.specs.Prelude.{slice_index_or, [], true, false, IfOk, IfSome, IfNone, IsOk};
 ghost use Rattle.std.specs.Prelude.{OnOk, OnErr};
-ghost use Rattle.std.specs.List.{IsDistinct};
-ghost use Rattle.std.specs.Str.{bytes_eq};
 ghost use Rattle.graph.specs.Finding.{StandsAt};
 ghost use Rattle.edgelist.specs.Guessing.{AreGuesses, IsShort, IsKey, IsGuess, blank_entry};
 ghost use Rattle.edgelist.specs.Guessing.{entry_key, key_of};
@@ -429,8 +427,7 @@ impl Numbering {
 
     /// The labels in one piece of memory. The guesses are dropped before it is asked for.
     pub(crate) fn into_labels(self, alloc: Global) -> Result<Labels, AllocError>
-        ensures labels { IfOk result (λ labels. labels ≡ self) }
-        ensures distinct { IfOk result (λ labels. IsDistinct bytes_eq labels) }
+        ensures { IfOk result (λ labels. labels ≡ self) }
     {
         let Numbering { labels, entries } = self;
         drop(entries);

@@ -1,90 +1,56 @@
 -- What a list of counted vertices says.
-use Rattle.std.proofs.Common.{◌≡◌, ◌≢◌, ◌∙◌, ℕ, ◌+◌, ◌<◌, ◌≤◌, ◌==◌, Bool, true, false, ◌||◌, List, [], ◌∷◌, ◌++◌, length, map, get_or, set, replicate, refl, ap, sym, arith}
+use Rattle.std.proofs.Common.{◌≡◌, ◌≢◌, ◌∙◌, ℕ, ◌+◌, ◌<◌, ◌≤◌, ◌==◌, Bool, true, false, ◌||◌, List, [], ◌∷◌, ◌++◌, length, map, get_or, replicate, refl, ap, sym, arith}
 use Rattle.std.specs.Prelude.{Option, None, Some, Err, if◌then◌else◌}
-use Rattle.std.specs.List.{list_any, filter, range_with_len, AllByRecursion, IsDistinct}
+use Rattle.std.specs.List.{list_any, filter, range_with_len}
 use Rattle.std.specs.Str.{bytes_eq}
-use Rattle.std.specs.Cmp.Lexicographic.{same_text}
-use Rattle.std.proofs.lemmas.List.{append_assoc, length-append, length-set, length-replicate, get_or_append_left, get_or-set_same, get_or-set_other, get_or-replicate}
-use Rattle.std.proofs.lemmas.List.Folds.{list_any-append, list_any_at}
+use Rattle.std.proofs.lemmas.List.{append_assoc, length-append, length-replicate, get_or_append_left, get_or-replicate}
+use Rattle.std.proofs.lemmas.List.Folds.{list_any-append}
 use Rattle.std.proofs.lemmas.List.Elements.{filter-append}
 use Rattle.std.proofs.lemmas.List.FromFn.{length-range_with_len}
 use Rattle.std.proofs.lemmas.List.Sums.{length-filter, count_by-le-length}
 use Rattle.csv.specs.declared.reader.Reader.{Reader}
 use Rattle.ball_model.specs.Input.{Network, records, first_of}
-use Rattle.ball_model.specs.Counting.{CountedRefusal, NotOne, Unknown, is_name, names, list_fault_at, named_vertices, counted_network_from}
+use Rattle.ball_model.specs.Counting.{CountedRefusal, NotOne, Unknown, names, list_fault_at, named_vertices, counted_network_from}
 use Rattle.std.proofs.lemmas.Bool.{eqb-true, eq-eqb}
 use Rattle.ball_model.proofs.PartLemmas.{range_more}
-use Rattle.graph.specs.Finding.{StandsAt}
 use Rattle.graph.specs.Links.{marked_vertices}
 use Rattle.graph.specs.Records.{config, rows, is_row, IsLeft}
-use Rattle.graph.specs.Counting.{ListFaultIs, record_fault, MarksAre, SaysMarks, SaysRefusal}
+use Rattle.graph.specs.Counting.{AreAlike, ListFaultIs, record_fault, MarksAre, MarksLabel, SaysMarks, SaysRefusal}
 use Rattle.graph.specs.declared.counting.CountedError.{CountedError}
 use Rattle.graph.specs.declared.counting.CountedError.TheVariants as refused
-use Rattle.std.proofs.Math.Bool.{or-false, or-true}
+use Rattle.std.proofs.Math.Bool.{or-false}
 use Rattle.std.proofs.Math.Seq.{get_or-append_seam}
 use Rattle.ball_model.proofs.BoolLemmas.{by_cases}
-use Rattle.graph.proofs.LabelLemmas.{text_same, Apart, apart-at}
 use Rattle.graph.proofs.RangeLemmas.{filter_range-same, first-none, first-some}
-
--- labels that are distinct are apart
-none-same : (x : List ℕ) (xs : List (List ℕ)) → AllByRecursion (λ y. bytes_eq x y ≡ false) xs → list_any (λ l. bytes_eq x l) xs ≡ false
-none-same x [] all = refl
-none-same x (y ∷ ys) all = rw all.0 (none-same x ys all.1)
-
-pub apart-distinct-labels : (labels : List (List ℕ)) → IsDistinct bytes_eq labels → Apart labels
-unfolding Apart IsDistinct
-apart-distinct-labels [] h = tt
-apart-distinct-labels (x ∷ xs) h = (none-same x xs h.0, apart-distinct-labels xs h.1)
-
--- distinct keys have distinct texts
-all-texts : {V : Type 0} (text : V → List ℕ) (x : V) (xs : List V) → AllByRecursion (λ y. bytes_eq (text x) (text y) ≡ false) xs → AllByRecursion (λ y. bytes_eq (text x) y ≡ false) (map text xs)
-all-texts text x [] all = tt
-all-texts text x (y ∷ ys) all = (all.0, all-texts text x ys all.1)
-
-pub distinct-texts : {V : Type 0} (text : V → List ℕ) (xs : List V) → IsDistinct (λ x y. bytes_eq (text x) (text y)) xs → IsDistinct bytes_eq (map text xs)
-unfolding IsDistinct
-distinct-texts text [] h = tt
-distinct-texts text (x ∷ xs) h = (all-texts text x xs h.0, distinct-texts text xs h.1)
 
 -- no mark yet
 pub marks-none : (labels : List (List ℕ)) → MarksAre labels [] (replicate (length labels) false)
 marks-none labels = record { count = length-replicate (length labels) false; each = λ v lt. get_or-replicate (length labels) v false true lt }
 
--- one record more, which names the label at v
-pub marks-more : (labels : List (List ℕ)) (past : List (List (List ℕ))) (marks : List Bool) (label : List ℕ) (r : List (List ℕ)) (v : ℕ) → IsDistinct bytes_eq labels → r ≡ label ∷ [] → StandsAt labels label v →
-    MarksAre labels past marks → MarksAre labels (past ++ r ∷ []) (set marks v true)
-marks-more labels past marks label r v distinct one stands are =
-    let apart : Apart labels = apart-distinct-labels labels distinct in
-    record {
-      count = length-set marks v true ∙ are.count;
-      each = λ w lt.
-          let now : list_any (names (get_or labels w [])) (past ++ r ∷ []) ≡ (list_any (names (get_or labels w [])) past || bytes_eq label (get_or labels w [])) =
-          list_any-append (names (get_or labels w [])) past (r ∷ []) ∙ rw one (ap (λ b. list_any (names (get_or labels w [])) past || b) (or-false (bytes_eq label (get_or labels w [])))) in
-          by_cases (w == v) _
-          (λ t.
-          let at : w ≡ v = eqb-true w v t in
-          let same : bytes_eq label (get_or labels w []) ≡ true = rw (at, stands.is) (text_same label) in
-          let set_ : get_or (set marks v true) w true ≡ true = rw at (get_or-set_same marks v true true (omega (arith, stands.within, are.count))) in
-          set_ ∙ sym (now ∙ rw same (or-true (list_any (names (get_or labels w [])) past))))
-          (λ f.
-          let other : w ≢ v = λ same. absurd (let bad : true ≡ false = sym (eq-eqb v v refl) ∙ ap (λ (j : ℕ). j == v) (sym same) ∙ f in cc) in
-          let differs : bytes_eq label (get_or labels w []) ≡ false =
-          by_cases (bytes_eq label (get_or labels w [])) _
-          (λ t. absurd (other (apart-at labels w v apart lt stands.within (sym (same_text label (get_or labels w []) (sym t)) ∙ sym stands.is))))
-          (λ e. e) in
-          let kept : get_or (set marks v true) w true ≡ get_or marks w true = rw get_or-set_other refl in
-          kept ∙ are.each w lt ∙ sym (now ∙ rw differs (or-false (list_any (names (get_or labels w [])) past))));
-    }
+-- marks that say which labels are named are the same for equal labels
+pub alike-marks : (labels : List (List ℕ)) (past : List (List (List ℕ))) (marks : List Bool) → MarksAre labels past marks → AreAlike labels marks
+alike-marks labels past marks are = record {
+  count = are.count;
+  each = λ v w lt low same. are.each v lt ∙ ap (λ (label : List ℕ). list_any (names label) past) same ∙ sym (are.each w low);
+}
 
--- a record that names a label passes
-names-any : (label : List ℕ) (labels : List (List ℕ)) → list_any (λ l. names l (label ∷ [])) labels ≡ list_any (bytes_eq label) labels
-names-any label [] = refl
-names-any label (l ∷ labels) = ap (λ b. bytes_eq label l || b) (names-any label labels)
+or-flip : (a b : Bool) → (a || b) ≡ (b || a)
+or-flip true true = refl
+or-flip true false = refl
+or-flip false true = refl
+or-flip false false = refl
 
-pub passes-known : (labels : List (List ℕ)) (r : List (List ℕ)) (label : List ℕ) (n v : ℕ) → is_name r ≡ true → r ≡ label ∷ [] → StandsAt labels label v → record_fault labels r n ≡ None
-passes-known labels r label n v name one stands =
-    let known : list_any (λ l. names l r) labels ≡ true = rw one (names-any label labels ∙ list_any_at (bytes_eq label) labels v [] stands.within (rw stands.is (text_same label))) in
-    rw (name, known) refl
+-- one record more, which names a label
+pub marks-more : (labels : List (List ℕ)) (past : List (List (List ℕ))) (old new : List Bool) (label : List ℕ) (r : List (List ℕ)) → r ≡ label ∷ [] → MarksLabel labels label old new →
+    MarksAre labels past old → MarksAre labels (past ++ r ∷ []) new
+marks-more labels past old new label r one marks are = record {
+  count = marks.count;
+  each = λ v lt.
+      let l = get_or labels v [] in
+      let now : list_any (names l) (past ++ r ∷ []) ≡ (list_any (names l) past || bytes_eq label l) =
+      list_any-append (names l) past (r ∷ []) ∙ rw one (ap (λ b. list_any (names l) past || b) (or-false (bytes_eq label l))) in
+      marks.each v lt ∙ or-flip (bytes_eq label l) (get_or old v true) ∙ ap (λ b. b || bytes_eq label l) (are.each v lt) ∙ sym now;
+}
 
 -- no check fails at any of these records
 pub record IsCleanList (labels : List (List ℕ)) (past : List (List (List ℕ))) : Type 0 where

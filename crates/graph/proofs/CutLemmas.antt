@@ -80,13 +80,13 @@ cut-more items more [] up = absurd up
 cut-more items more (a ∷ []) up = refl
 cut-more items more (a ∷ b ∷ starts) up = rw (slice-more items more a b up.0 (start-within (length items) b starts up.1), cut-more items more (b ∷ starts) up.1) refl
 
-ascend-push : (end b : ℕ) (starts : List ℕ) → Ascend end starts → end ≤ b → Ascend b (starts ++ b ∷ [])
+pub ascend-push : (end b : ℕ) (starts : List ℕ) → Ascend end starts → end ≤ b → Ascend b (starts ++ b ∷ [])
 unfolding Ascend
 ascend-push end b [] up le = absurd up
 ascend-push end b (a ∷ []) up le = (omega (arith, up), refl)
 ascend-push end b (a ∷ c ∷ starts) up le = (up.0, ascend-push end b (c ∷ starts) up.1 le)
 
-cut-push : (items starts : List ℕ) (end b : ℕ) → Ascend end starts → lists_between items (starts ++ b ∷ []) ≡ lists_between items starts ++ slice_range items end b ∷ []
+pub cut-push : (items starts : List ℕ) (end b : ℕ) → Ascend end starts → lists_between items (starts ++ b ∷ []) ≡ lists_between items starts ++ slice_range items end b ∷ []
 unfolding lists_between Ascend
 cut-push items [] end b up = absurd up
 cut-push items (a ∷ []) end b up = ap (λ k. slice_range items k b ∷ []) up

@@ -1,5 +1,5 @@
 -- A label's number, by the keys of a set and by their texts; labels that are all different.
-use Rattle.std.proofs.Common.{rules, ◌<◌, get_or, arith, subst, ◌≡◌, ◌∙◌, ℕ, ◌+◌, List, [], ◌∷◌, ◌++◌, Bool, true, false, refl, sym, ap, inl, inr, map, Some, None, zero, suc, ◌≤◌, ◌==◌, ◌&&◌, ◌||◌, not, ap₂}
+use Rattle.std.proofs.Common.{rules, ◌<◌, get_or, arith, subst, ◌≡◌, ◌∙◌, ℕ, ◌+◌, List, [], ◌∷◌, ◌++◌, Bool, true, false, refl, sym, ap, inl, inr, map, Some, None, zero, suc, ◌≤◌, not}
 use Rattle.std.specs.Prelude.{if◌then◌else◌, cond, nat_lt, length}
 use Rattle.std.specs.List.{list_any, position, position_or_len, filter, flat_map}
 use Rattle.std.proofs.lemmas.Bool.{cases_Bool, not_from_true}

@@ -2,6 +2,7 @@ pub mod CutLemmas
 pub mod FormLemmas
 pub mod LabelLemmas
 pub mod LineLemmas
+pub mod TextLemmas
 pub mod RecordLemmas
 pub mod FindLemmas
 pub mod CodesLemmas

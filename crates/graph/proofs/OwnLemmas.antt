@@ -66,6 +66,10 @@ lists-all lists marks asc =
     (sym (length-map-range_with_len (preds_of (graph_of lists marks)) 0 (length lists)))
     (λ i lt. sym (preds_of-graph lists marks i asc lt) ∙ sym (get_or-map-range_with_len (preds_of (graph_of lists marks)) 0 (length lists) i i [] lt (omega arith))))
 
+-- the predecessors in the graph of lists are these lists
+pub preds-lists : (lists : List (List ℕ)) → AllAscend (length lists) lists → map (λ x. preds_of (graph_of lists []) x) (range_with_len 0 (length lists)) ≡ lists
+preds-lists lists asc = ap (λ (xs : List ℕ). map (λ x. preds_of (graph_of lists []) x) xs) (sym (vertices-all (length lists))) ∙ sym (lists-all lists [] asc)
+
 -- how many edges lead to the vertices from x on
 abbrev pub left : Graph → ℕ → ℕ → ℕ
 left g n x = length (flat_map (edges_to g) (range_with_len x (n - x)))

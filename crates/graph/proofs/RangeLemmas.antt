@@ -1,7 +1,7 @@
 -- Ranges of numbers, what is first told of one, and copies of one value.
-use Rattle.std.proofs.Common.{◌≡◌, ℕ, zero, suc, ◌+◌, ◌<◌, ◌≤◌, Bool, true, List, ◌∷◌, get_or, replicate, refl, ap, arith, false, nat_lt, [], ◌++◌, length, map, sym, subst, ◌∙◌, inl, inr, tests, Ok, Err, OnOk, IfErr}
+use Rattle.std.proofs.Common.{◌≡◌, ℕ, zero, suc, ◌+◌, ◌<◌, ◌≤◌, Bool, true, List, ◌∷◌, get_or, replicate, refl, ap, arith, map}
 use Rattle.std.specs.List.{filter, range_with_len}
-use Rattle.std.specs.Prelude.{Option, Some, None, Result, nat_le}
+use Rattle.std.specs.Prelude.{Option, Some, None}
 use Rattle.ball_model.specs.Input.{first_of}
 
 -- tests that agree below a bound keep the same of a range below it

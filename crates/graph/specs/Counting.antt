@@ -1,6 +1,7 @@
 -- What is made of a list of counted vertices.
-use Rattle.std.specs.Prelude.{◌≡◌, ⊤, ℕ, ◌+◌, ◌<◌, Bool, true, not, List, [], ◌∷◌, ◌++◌, if◌then◌else◌, length, slice_index_or, Option, None, Some, Result, Ok, Err}
+use Rattle.std.specs.Prelude.{◌≡◌, ⊤, ℕ, ◌+◌, ◌<◌, Bool, true, not, ◌||◌, List, [], ◌∷◌, ◌++◌, if◌then◌else◌, length, slice_index_or, Option, None, Some, Result, Ok, Err}
 use Rattle.std.specs.List.{list_any}
+use Rattle.std.specs.Str.{bytes_eq}
 use Rattle.ball_model.specs.Input.{Network}
 use Rattle.ball_model.specs.Counting.{CountedRefusal, NotOne, Unknown, is_name, names, counted_network_from}
 use Rattle.ball_model.specs.RunText.{Settings, counted_in, network_in}
@@ -40,6 +41,21 @@ pub record MarksAre (labels : List (List ℕ)) (records : List (List (List ℕ))
   pub count : length marks ≡ length labels
   pub each : (v : ℕ) → v < length labels →
       slice_index_or marks v true ≡ list_any (names (slice_index_or labels v [])) records
+
+-- equal labels have equal marks
+pub record AreAlike (labels : List (List ℕ)) (marks : List Bool) : Type 0 where
+  pub count : length marks ≡ length labels
+  pub each : (v w : ℕ) → v < length labels → w < length labels →
+      slice_index_or labels v [] ≡ slice_index_or labels w [] →
+      slice_index_or marks v true ≡ slice_index_or marks w true
+
+-- the vertices with this label were marked, and no others
+pub record MarksLabel (labels : List (List ℕ)) (label : List ℕ) (old new : List Bool)
+    : Type 0 where
+  pub count : length new ≡ length labels
+  pub each : (v : ℕ) → v < length labels →
+      slice_index_or new v true
+      ≡ (bytes_eq label (slice_index_or labels v []) || slice_index_or old v true)
 
 -- a record with these fields was marked
 abbrev pub MarksOne : List (List ℕ) → List (List ℕ) → List Bool → List Bool → Type 0

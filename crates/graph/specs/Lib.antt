@@ -1,4 +1,5 @@
 pub mod Lists
+pub mod Lines
 pub mod Links
 pub mod Order
 pub mod Edges

@@ -1,7 +1,6 @@
 -- A graph kept as a list of predecessors for each vertex.
 use Rattle.std.specs.Prelude.{◌≡◌, ℕ, ◌+◌, ◌<◌, ◌≤◌, Bool, true, List, [], ◌∷◌, ◌++◌, map, length, slice_index_or}
-use Rattle.std.specs.List.{filter, range_with_len, IsDistinct}
-use Rattle.std.specs.Str.{bytes_eq}
+use Rattle.std.specs.List.{filter, range_with_len}
 use Rattle.ball_model.specs.Graph.{Graph}
 use Rattle.ball_model.specs.PlanValue.{most_vertices}
 
@@ -30,10 +29,17 @@ graph_of lists marks = record {
   counted = marked_vertices (length lists) marks;
 }
 
+-- the graph with a list of predecessors for each vertex; every vertex is counted
+abbrev pub graph_of_lists : List (List ℕ) → Graph
+graph_of_lists lists = record {
+  vertices = length lists;
+  edges = edges_from 0 lists;
+  counted = range_with_len 0 (length lists);
+}
+
 -- a list of predecessors for each label, and the number of counted vertices
 pub record AreLinks (labels lists : List (List ℕ)) (marks : List Bool) (number : ℕ) : Type 0 where
   pub as_many : length lists ≡ length labels
   pub ascend : AllAscend (length lists) lists
   pub few : length labels ≤ most_vertices
-  pub distinct : IsDistinct bytes_eq labels
   pub counted : number ≡ length (marked_vertices (length lists) marks)

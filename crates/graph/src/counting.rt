@@ -3,8 +3,6 @@
 ghost use Rattle.std.specs.Prelude.{◌≡◌, ◌+◌, ◌^◌, ◌<◌, ◌≤◌, [], ◌∷◌, length};
 ghost use Rattle.std.specs.Prelude.{replicate, slice_index_or, if◌then◌else◌, None, OnOk, IfOk};
 ghost use Rattle.std.specs.Prelude.{IfErr, IfSome, IfNone, false, true};
-ghost use Rattle.std.specs.List.{IsDistinct};
-ghost use Rattle.std.specs.Str.{bytes_eq};
 ghost use Rattle.csv.specs.Records.{fields_of};
 ghost use Rattle.ball_model.specs.Input.{IsPlain, records};
 ghost use Rattle.ball_model.specs.Counting.{is_name};
@@ -72,14 +70,13 @@ fn name<'a>(row: &'a ByteRecord) -> Option<&'a [u8]>
     Some(field)
 }
 
-// Marks the vertex that a record names, which follows `number` others.
-fn mark_vertex(
+// Marks the vertices that a record names, which follows `number` others.
+fn mark_record(
     marks: &mut [bool],
     index: &Index<'_>,
     row: &ByteRecord,
     number: u64,
 ) -> Result<(), CountedError>
-    requires distinct { IsDistinct bytes_eq index.now }
     requires size { length marks.old ≡ length index.now }
     requires few { number ≤ 2 ^ 63 }
     ensures marks { OnOk result (MarksOne index.now (fields_of row.now) marks.old marks.new) }
@@ -89,10 +86,9 @@ fn mark_vertex(
     let Some(label) = name(row) else {
         return Err(CountedError::Fields { number: number + 1 });
     };
-    let Some(v) = index.find(label) else {
+    if !index.mark(label, marks) {
         return Err(CountedError::Unknown { number: number + 1 });
-    };
-    marks[v as usize] = true;
+    }
     Ok(())
 }
 
@@ -119,7 +115,6 @@ fn mark_all<R: Read + Drop>(
     row: &mut ByteRecord,
     most: u64,
 ) -> Result<(), CountedError>
-    requires distinct { IsDistinct bytes_eq index.now }
     requires marks { MarksAre index.now [] marks.old }
     requires few { most ≤ 2 ^ 63 + 1 }
     ensures ok { FromStart R.remaining reader.old (λ rs. length rs < most →
@@ -132,7 +127,7 @@ fn mark_all<R: Read + Drop>(
         if !more {
             return Ok(());
         }
-        mark_vertex(marks, index, row, number)?;
+        mark_record(marks, index, row, number)?;
     }
     Ok(())
 }
@@ -152,7 +147,6 @@ fn mark_list(
     delimiter: Delimiter,
     list: &[u8],
 ) -> Result<(), CountedError>
-    requires distinct { IsDistinct bytes_eq index.now }
     requires marks { MarksAre index.now [] marks.old }
     ensures ok { IsPlain list.now →
         OnOk result (SaysMarks index.now (records (byte_of delimiter) list.now) marks.new) }
@@ -172,7 +166,6 @@ fn mark_labels(
     delimiter: Delimiter,
     list: &[u8],
 ) -> Result<(), CountedError>
-    requires distinct { IsDistinct bytes_eq labels.now }
     requires few { length labels.now < 2 ^ 32 }
     requires marks { MarksAre labels.now [] marks.old }
     ensures ok { IsPlain list.now →
@@ -191,7 +184,6 @@ pub(crate) fn marks_of(
     delimiter: Delimiter,
     list: &[u8],
 ) -> Result<Vec<bool>, CountedError>
-    requires distinct { IsDistinct bytes_eq labels.now }
     requires few { length labels.now < 2 ^ 32 }
     ensures size { IfOk result (λ marks. length marks.items ≡ length labels.now) }
     ensures ok { IsPlain list.now → IfOk result (λ marks.

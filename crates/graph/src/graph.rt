@@ -3,8 +3,8 @@
 ghost use Rattle.std.specs.Prelude.{◌≡◌, ◌^◌, ◌<◌, ◌≤◌, length, map, slice_index_or, IfOk, IfErr};
 ghost use Rattle.std.specs.Prelude.{OnOk, OnErr, Ok, Err, IsOk, []};
 ghost use Rattle.std.specs.Arc.{arc_value};
-ghost use Rattle.std.specs.List.{All, IsDistinct};
-ghost use Rattle.std.specs.Str.{bytes_eq};
+ghost use Rattle.std.specs.List.{All, range_with_len, sum_by};
+ghost use Rattle.gapcode.specs.Lists.{AreAscending};
 ghost use Rattle.ball_model.specs.Graph.{IsGraph, is_counted, preds_of};
 ghost use Rattle.ball_model.specs.PlanValue.{vertices_of, most_vertices};
 ghost use Rattle.ball_model.specs.Counting.{counted_of};
@@ -12,6 +12,7 @@ ghost use Rattle.ball_model.specs.Input.{IsPlain};
 ghost use Rattle.graph.specs.Counting.{RefusesList, with_marks};
 ghost use Rattle.graph.specs.Records.{byte_of};
 ghost use Rattle.graph.specs.Edges.{graph_of_edges, source_lists, AllBelow};
+ghost use Rattle.graph.specs.Links.{graph_of_lists};
 
 use crate::build::lists_of;
 use crate::codes::{Shares, lists_of_by};
@@ -20,6 +21,7 @@ use crate::delimiter::Delimiter;
 use crate::edge::Edge;
 use crate::labels::Labels;
 use crate::lists::{PredLists, Preds};
+use gapcode::Lists;
 use std::alloc::{AllocError, Global};
 use std::marker::Model;
 use std::sync::Arc;
@@ -98,7 +100,6 @@ impl Graph {
     /// The graph of edges, with these labels. Every vertex is counted.
     pub fn of_edges(alloc: Global, labels: Labels, edges: Vec<Edge>) -> Result<Graph, AllocError>
         requires below { AllBelow (length labels) edges.items }
-        requires distinct { IsDistinct bytes_eq labels }
         requires few_labels { length labels ≤ most_vertices }
         requires few_edges { length edges.items < 2 ^ 32 }
         ensures graph { IfOk result (λ g. g.graph ≡ graph_of_edges (length labels) edges.items) }
@@ -123,7 +124,6 @@ impl Graph {
         threads: usize,
     ) -> Result<Graph, AllocError>
         requires below { AllBelow (length labels) edges.items }
-        requires distinct { IsDistinct bytes_eq labels }
         requires few_labels { length labels ≤ most_vertices }
         requires few_edges { length edges.items < 2 ^ 32 }
         ensures graph { IfOk result (λ g. g.graph ≡ graph_of_edges (length labels) edges.items) }
@@ -136,6 +136,34 @@ impl Graph {
             labels,
             marks: Vec::new(alloc),
             number,
+        })
+    }
+
+    /// The graph with these lists of predecessors, so many together, and these labels, which may repeat. Every vertex is
+    /// counted. Nothing is sorted or copied.
+    pub fn of_lists(
+        alloc: Global,
+        labels: Labels,
+        lists: Lists,
+        edges: u64,
+    ) -> Result<Graph, AllocError>
+        requires ascend { AreAscending (length lists) lists }
+        requires as_many { length labels ≡ length lists }
+        requires few_labels { length labels ≤ most_vertices }
+        requires edges { edges ≡ sum_by length lists }
+        requires few_edges { edges < 2 ^ 32 }
+        ensures graph { IfOk result (λ g. g.graph ≡ graph_of_lists lists) }
+        ensures preds { IfOk result (λ g.
+            map (preds_of g.graph) (range_with_len 0 g.graph.vertices) ≡ lists) }
+        ensures labels { IfOk result (λ g. g.labels ≡ labels) }
+    {
+        let vertices = labels.len() as u32;
+        let lists = PredLists::of(lists, edges as usize);
+        Ok(Graph {
+            lists: Arc::new(alloc, lists)?,
+            labels,
+            marks: Vec::new(alloc),
+            number: vertices,
         })
     }
 

@@ -1,34 +1,63 @@
 //! Labels in one piece of memory, and sets of them.
 
 ghost use Rattle.std.specs.Prelude.{◌≡◌, ◌+◌, ◌^◌, ◌<◌, length, map, slice_index_or, IfOk};
-ghost use Rattle.std.specs.Prelude.{◌∷◌, ◌++◌, [], false, IfSome, IfNone, OnOk, OnErr};
+ghost use Rattle.std.specs.Prelude.{◌∷◌, ◌++◌, [], false, IfSome, IfNone, OnOk, OnErr, Some};
+ghost use Rattle.std.specs.Prelude.{option_map};
 ghost use Rattle.std.specs.List.{sum_by};
 ghost use Rattle.graph.specs.Finding.{StandsAt};
 ghost use Rattle.graph.specs.Labels.{has_label, texts, with_label};
+ghost use Rattle.graph.specs.Lines.{GivesLines, labels_in, lines_after, shortened};
 ghost use Rattle.graph.specs.Lists.{Ascend, lists_between};
+ghost use Rattle.graph.specs.declared.labels.LinesError.TheVariants as refused;
 
 use gapcode::Places;
 use indexmap::IndexSet;
 use std::alloc::{AllocError, Global};
 use std::hash::RandomState;
 use std::marker::Model;
+use thiserror::Error;
+
+// Ends the line of a label.
+const LF: u8 = b'\n';
+
+/// Why a text is not taken as the labels of so many vertices.
+#[derive(Clone, Copy, Debug, PartialEq, Eq, Error)]
+pub enum LinesError {
+    /// It has another number of lines, one of them is empty, or the last has no LF.
+    #[error("the labels are not as many as the vertices, or one is empty")]
+    Lines,
+    /// Memory was refused, though the text is as it should be.
+    #[error("out of memory")]
+    Memory,
+}
+
+impl From<AllocError> for LinesError {
+    ghost from_gives = { λ _ e. e ≡ refused.Memory };
+
+    fn from(_error: AllocError) -> LinesError {
+        LinesError::Memory
+    }
+}
 
 /// Labels, one after another, and the place where each begins. It takes 4 bytes a label beside the labels' own.
 #[derive(Drop)]
 pub struct Labels {
     bytes: Vec<u8>,
     starts: Places,
+    /// How many bytes after each label are not part of it.
+    gap: usize,
 }
 
 impl Model for Labels {
     ghost use Rattle.std.specs.Prelude.{List, ℕ, length};
+    ghost use Rattle.graph.specs.Lines.{shortened};
     ghost use Rattle.graph.specs.Lists.{Ascend, lists_between};
 
     ghost Value = { List (List ℕ) };
 
-    ghost view = { λ labels. lists_between labels.bytes.items labels.starts };
+    ghost view = { λ l. shortened l.gap (lists_between l.bytes.items l.starts) };
 
-    ghost invariant = { λ labels. Ascend (length labels.bytes.items) labels.starts };
+    ghost invariant = { λ l. Ascend (length l.bytes.items) l.starts };
 }
 
 // The number of bytes of all texts.
@@ -75,6 +104,44 @@ fn put_texts(alloc: Global, bytes: &mut Vec<u8>, texts: &[Vec<u8>]) -> Result<Pl
     Ok(starts)
 }
 
+// How many lines a text is; none if one of them is empty, or the last has no LF.
+fn count_lines(text: &[u8]) -> Option<usize>
+    ensures { result ≡ option_map length (lines_after [] text.now) }
+{
+    let mut count = 0;
+    let mut begin = 0;
+    for i in 0..text.len() {
+        if text[i] == LF {
+            if i == begin {
+                return None;
+            }
+            begin = i + 1;
+            count += 1;
+        }
+    }
+    if begin == text.len() {
+        Some(count)
+    } else {
+        None
+    }
+}
+
+// Where each of the lines of a text begins, and the last ends.
+fn line_starts(alloc: Global, text: &[u8], count: u32) -> Result<Places, AllocError>
+    requires { option_map length (lines_after [] text.now) ≡ Some count }
+    ensures starts { IfOk result (λ starts. Ascend (length text.now) starts) }
+    ensures lines { IfOk result (λ starts.
+        lines_after [] text.now ≡ Some (shortened 1 (lists_between text.now starts))) }
+{
+    let mut starts = first_start(alloc, count as usize)?;
+    for i in 0..text.len() {
+        if text[i] == LF {
+            starts = starts.push(i as u128 + 1)?;
+        }
+    }
+    Ok(starts)
+}
+
 impl Labels {
     /// A copy of these texts, in their order.
     pub fn of(alloc: Global, texts: &[Vec<u8>]) -> Result<Labels, AllocError>
@@ -82,7 +149,30 @@ impl Labels {
     {
         let mut bytes = Vec::with_capacity(alloc, total(texts))?;
         let starts = put_texts(alloc, &mut bytes, texts)?;
-        Ok(Labels { bytes, starts })
+        Ok(Labels {
+            bytes,
+            starts,
+            gap: 0,
+        })
+    }
+
+    /// The labels of so many vertices, as the lines of a text: an LF ends each, and none is empty. The text is taken
+    /// over as it is. Labels may repeat.
+    pub fn of_lines(alloc: Global, text: Vec<u8>, count: u32) -> Result<Labels, LinesError>
+        ensures { GivesLines (labels_in count text.items) result }
+    {
+        let Some(found) = count_lines(&text) else {
+            return Err(LinesError::Lines);
+        };
+        if found != count as usize {
+            return Err(LinesError::Lines);
+        }
+        let starts = line_starts(alloc, &text, count)?;
+        Ok(Labels {
+            bytes: text,
+            starts,
+            gap: 1,
+        })
     }
 
     /// The number of labels.
@@ -108,7 +198,8 @@ impl Labels {
         requires { i < length self.now }
         ensures { result.now ≡ slice_index_or self.now i [] }
     {
-        text_at(&self.bytes, &self.starts, i)
+        let text = text_at(&self.bytes, &self.starts, i);
+        &text[..text.len().saturating_sub(self.gap)]
     }
 }
 

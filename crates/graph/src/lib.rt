@@ -32,7 +32,7 @@ pub use delimiter::Delimiter;
 pub use edge::Edge;
 pub use feeds::Feeds;
 pub use graph::Graph;
-pub use labels::{Labels, find_label, insert_label};
+pub use labels::{Labels, LinesError, find_label, insert_label};
 pub use lists::Preds;
 pub use part::Part;
 pub use records::{is_blank, reader_of};

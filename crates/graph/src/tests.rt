@@ -1,6 +1,7 @@
-//! Lists that several threads make, and laws.
+//! Lists that several threads make, graphs of lines and lists, and laws.
 
 mod codes;
+mod lines;
 
 use crate::laws;
 

@@ -1,0 +1,32 @@
+-- Labels as the lines of a text: an LF after each, and none is empty.
+use Rattle.std.specs.Prelude.{◌≡◌, ℕ, ◌+◌, ◌-◌, ◌==◌, List, [], ◌∷◌, ◌++◌, if◌then◌else◌, length, map, take, Option, None, Some, option_map, Result, Ok, Err}
+use Rattle.ball_model.specs.Input.{is_filled}
+use Rattle.graph.specs.declared.labels.LinesError.{LinesError}
+use Rattle.graph.specs.declared.labels.LinesError.TheVariants as refused
+
+-- the lines of a text whose first has begun: an LF ends each, none is empty, and nothing follows the last
+unfoldable pub lines_after : List ℕ → List ℕ → Option (List (List ℕ))
+lines_after line [] = if is_filled line then None else Some []
+lines_after line (c ∷ text) =
+    if c == 10 then
+    (if is_filled line then option_map (λ lines. line ∷ lines) (lines_after [] text) else None)
+    else lines_after (line ++ c ∷ []) text
+
+-- the lines, if they are so many
+abbrev pub if_so_many : ℕ → Option (List (List ℕ)) → Option (List (List ℕ))
+if_so_many count None = None
+if_so_many count (Some lines) = if length lines == count then Some lines else None
+
+-- the labels of so many vertices, if the text is so many lines
+abbrev pub labels_in : ℕ → List ℕ → Option (List (List ℕ))
+labels_in count text = if_so_many count (lines_after [] text)
+
+-- it is what the text says, or memory was refused, if the text says labels
+abbrev pub GivesLines : Option (List (List ℕ)) → Result (List (List ℕ)) LinesError → Type 0
+GivesLines due (Ok labels) = due ≡ Some labels
+GivesLines due (Err refused.Lines) = due ≡ None
+GivesLines due (Err refused.Memory) = (labels : List (List ℕ)) × (due ≡ Some labels)
+
+-- lists without so many items at the end of each
+abbrev pub shortened : ℕ → List (List ℕ) → List (List ℕ)
+shortened n lists = map (λ xs. take (length xs - n) xs) lists
