@@ -9,7 +9,6 @@ ghost use Rattle.ball_model.specs.State.{Stands};
 ghost use Rattle.board.specs.Rule.{share};
 ghost use Rattle.board.specs.Seats.{BoardView, IsAt};
 ghost use Rattle.board.specs.declared.board.TheConstants.{LEAST_ENTRIES, MOST_ENTRIES};
-ghost use Rattle.board.specs.declared.seat.TheConstants.{SHARE};
 
 mod calls;
 mod opened;
@@ -258,7 +257,7 @@ impl<'a> User<'a> {
 
     /// Another one at the board.
     fn split(&mut self) -> User<'a>
-        requires { SHARE ≤ self.old.1 }
+        requires { 1024 ≤ self.old.1 }
         ensures board { (self.new.0 ≡ self.old.0) × (result.0 ≡ self.old.0) }
         ensures left { self.new.1 ≡ self.old.1 - share self.old.1 }
         ensures room { result.1 ≡ share self.old.1 }

@@ -1,7 +1,6 @@
 //! Calls of one caller, and of seats that are split and joined.
 
 ghost use Rattle.std.specs.Prelude.{◌≡◌, ◌≤◌};
-ghost use Rattle.board.specs.declared.seat.TheConstants.{SHARE};
 
 use super::*;
 
@@ -53,7 +52,7 @@ fn are_answered<R: Wait>(rt: &R, user: &mut User<'_>, steps: &[Step]) -> bool
 /// Whether one who is split off is answered so without the first `without` steps, whatever memory is refused, and the
 /// first one knows once they are joined. Of the calls two find nothing.
 fn goes_on_after_refusals<R: Wait>(rt: &R, user: &mut User<'_>, without: usize) -> bool
-    requires { SHARE ≤ user.old.1 }
+    requires { 1024 ≤ user.old.1 }
 {
     let Some(steps) = STEPS.get(without..) else {
         return false;

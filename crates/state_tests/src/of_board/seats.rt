@@ -1,7 +1,6 @@
 //! Two seats at one board, that see and find what each posts.
 
 ghost use Rattle.std.specs.Prelude.{◌≤◌, ◌^◌};
-ghost use Rattle.board.specs.declared.seat.TheConstants.{SHARE};
 
 use super::*;
 
@@ -21,7 +20,7 @@ fn sees_and_finds<R: Wait>(rt: &R, a: &mut User<'_>) -> bool
 /// Whether two threads post eight batches, four each by A and B, and all are New; once B has ended at A there are nine
 /// entries, and A finds all: then there are 17.
 fn all_are_found<R: Threads + Wait + Sync>(rt: &R, a: &mut User<'_>) -> bool
-    requires { SHARE ≤ a.old.1 }
+    requires { 1024 ≤ a.old.1 }
 {
     let mut b = a.split();
     let (ours, theirs) = thread::join_mut(
