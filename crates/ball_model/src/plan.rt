@@ -11,7 +11,7 @@ pub(crate) const LEAST_LOG2M: u8 = 4;
 /// The greatest binary logarithm of the number of registers: 1024 registers.
 pub(crate) const GREATEST_LOG2M: u8 = 10;
 
-/// The most registers of a counter: 2 to the power of [`GREATEST_LOG2M`].
+/// The most registers of a counter: 2^10.
 pub const MOST_REGISTERS: usize = 1024;
 
 /// The greatest rank: that of a hash whose tail, of 32 bits, is 0.
