@@ -298,7 +298,7 @@ impl<'a, C: Clock, T: ProgressTeller> ReadWatch for ProgressGate<'a, C, T> {
     }
 }
 
-impl<'a, C: Clock, T: Teller> Watch for TellingGate<'a, C, T> {
+impl<'a, C: Clock, T: ProgressTeller> Watch for ProgressGate<'a, C, T> {
     fn after_read(&self, records: u64, vertices: u32) {
         if let Some(progress) = &self.progress {
             progress.note_edge_list(records, vertices);
