@@ -6,7 +6,7 @@ ghost use Rattle.figures.specs.Values.{value_of};
 ghost use Rattle.replica.specs.Stepping.{CanStepBlock, StepsBlock};
 ghost use Rattle.replica.specs.Tables.{AreStepped, CanBeStepped, rows_before};
 
-use crate::level::{Step, step_rows, step_tally};
+use crate::level::{Step, step_tally};
 use crate::relay::{Behind, Relay};
 use figures::Tally;
 use registers::{Rows, next_marked};
@@ -143,8 +143,12 @@ fn table_before<'a>(before: &'a Option<Behind<Rows>>, rows: &'a Relay<Rows>) -> 
     }
 }
 
-// The figures by blocks, and then the rows by blocks: those that changed are read twice.
-fn step_blocks<R: Threads + Sync>(
+/// Does what [`crate::level::step_rows`] does, in 2^depth threads: the figures by blocks, and then the rows by blocks, so
+/// that those that changed are read twice.
+///
+/// It takes no memory but that of the threads, and time in proportion to the marks and the marked rows, over the
+/// processors.
+pub(crate) fn step_blocks<R: Threads + Sync>(
     rt: &R,
     step: &Step<'_>,
     rows: &mut Relay<Rows>,
@@ -170,27 +174,4 @@ fn step_blocks<R: Threads + Sync>(
     rows.put_marked(rt, step.depth, step.ahead, step.marks);
     rows.leave_behind(before);
     gain
-}
-
-/// The figures of the rows ahead, as [`step_rows`] steps them, in several threads.
-///
-/// It takes no memory but that of the threads, and time in proportion to the marks and the marked rows, over the
-/// processors.
-pub(crate) fn step_rows_by<R: Threads + Sync>(
-    rt: &R,
-    step: &Step<'_>,
-    rows: &mut Relay<Rows>,
-    weights: &mut [u64],
-    tallies: &mut [Tally],
-) -> u128
-    requires { CanBeStepped step.now.estimator.now step.now.t rows.old step.now.ahead.now
-        step.now.marks.now weights.old (map value_of tallies.old) }
-    ensures { AreStepped step.now.estimator.now step.now.t step.now.ahead.now
-        (map value_of tallies.old) (map value_of tallies.new) weights.new result rows.new }
-{
-    if step.depth == 0 {
-        step_rows(step, rows, weights, tallies)
-    } else {
-        step_blocks(rt, step, rows, weights, tallies)
-    }
 }

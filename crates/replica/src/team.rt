@@ -11,7 +11,7 @@ use crate::hearing::catch_up;
 use crate::level::{Step, step_rows};
 use crate::marks::count_set;
 use crate::relay::Relay;
-use crate::stepping::step_rows_by;
+use crate::stepping::step_blocks;
 use crate::walk::{Walk, walk_block, walk_halves};
 use figures::Tally;
 use registers::{Rows, take_over};
@@ -177,8 +177,8 @@ impl<'a, R: Threads + Sync> Hands for Team<'a, R> {
 
     ghost ready = { λ hands. IsSync R.row };
 
-    // To pull all rows each edge to an own vertex has to be decoded, of which about one in so many partitions is from
-    // an own one; and the rows are raised by all threads.
+    // To pull all rows each edge to an own vertex has to be decoded, of which about one in `parts` is from an own
+    // one; and the rows are raised by all threads.
     fn are_many(&self, parts: u16, width: usize, marks: &[bool]) -> bool {
         let decode = DECODE * usize::from(parts.max(1));
         let gain = (self.threads.max(1) - 1).min(63) * (RAISE + width / 4 * 3) / decode;
@@ -209,7 +209,11 @@ impl<'a, R: Threads + Sync> Hands for Team<'a, R> {
         weights: &mut [u64],
         tallies: &mut [Tally],
     ) -> u128 {
-        step_rows_by(self.rt, step, rows, weights, tallies)
+        if step.depth == 0 {
+            step_rows(step, rows, weights, tallies)
+        } else {
+            step_blocks(self.rt, step, rows, weights, tallies)
+        }
     }
 
     fn walk(
