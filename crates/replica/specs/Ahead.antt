@@ -28,7 +28,7 @@ pub record IsEmptyTable (parts : ℕ) (early : List (List (Option BatchValue))) 
 abbrev pub StaysTable : List (List (Option BatchValue)) → List (List (Option BatchValue)) → Type 0
 StaysTable early later = (parts : ℕ) → IsTable parts early → IsTable parts later
 
--- so many supersteps are gone
+-- `count` supersteps have passed
 pub record ComesNearer (count : ℕ) (early later : List (List (Option BatchValue))) : Type 0 where
   pub kept : (i k : ℕ) → early_at later i k ≡ early_at early (i + count) k
   pub table : StaysTable early later

@@ -15,7 +15,7 @@ use Rattle.replica.specs.Index.{targets_of}
 use Rattle.replica.specs.Kept.{AllRise, AreCounters, AreOfPlan}
 use Rattle.replica.specs.Spread.{AreTouched, LeadInside}
 
--- which sources are heard, whether one of them tells of a changed vertex, and what is accumulated for each vertex
+-- which sources are heard, whether one of them has a changed vertex, and what is accumulated for each vertex
 pub record HeardState : Type 0 where
   pub heard : List Bool
   pub change : Bool
@@ -33,11 +33,11 @@ pub record IsTrueHearing (j : Job) (p t : ℕ) (a : HeardState) : Type 0 where
   pub change : a.change ≡ heard_changes j t a.heard
   pub accumulated : a.accumulated ≡ accumulated_of j p t (λ z. is_heard j.plan.parts a.heard z)
 
--- what one source tells
+-- the batch of one source
 abbrev pub batch_by : ℕ → Option BatchValue → ℕ → Option BatchValue
 batch_by source told q = if q == source then told else None
 
--- what the sources tell is heard too
+-- the batches of the sources are heard too
 pub record Hears (log2m : ℕ) (targets : List (List ℕ)) (told : ℕ → Option BatchValue)
     (a b : HeardState) : Type 0 where
   pub count : length b.heard ≡ length a.heard
@@ -51,7 +51,7 @@ pub record Hears (log2m : ℕ) (targets : List (List ℕ)) (told : ℕ → Optio
 
 -- ---- what is kept of it beside the rows
 
--- the sources that are heard, whether one of them tells of a changed vertex, the accumulators, one of each row or none,
+-- the sources that are heard, whether one of them has a changed vertex, the accumulators, one of each row or none,
 -- and which of them differ from their rows
 pub record HearingValue : Type 0 where
   pub heard : List Bool
@@ -188,7 +188,7 @@ pub record HearsByIndex (log2m : ℕ) (targets : List (List ℕ)) (a : HearingVa
   pub inside : LeadInside (length a.accumulated.rows) targets
   pub counters : AreCounters log2m a.accumulated.rows
 
--- what the sources tell is heard too, and those rows stay marked that differ
+-- the batches of the sources are heard too, and those rows stay marked that differ
 pub record HearsAlso (log2m : ℕ) (targets : List (List ℕ)) (told : ℕ → Option BatchValue)
     (a b : HearingValue) : Type 0 where
   pub hears : Hears log2m targets told (hearing_kept a) (hearing_kept b)

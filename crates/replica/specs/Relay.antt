@@ -49,7 +49,7 @@ pub record DifferAt (marks : List Bool) (a b : List TallyValue) : Type 0 where
 abbrev pub AreAsMany : List TallyValue → List TallyValue → Type 0
 AreAsMany a b = length a ≡ length b
 
--- what is shown differs from the tallies shown before at stale places alone, and there are so many marks as tallies
+-- what is shown differs from the tallies shown before at stale places alone, and there are as many marks as tallies
 pub record CanBeRelayed (shown : List TallyValue) (behind : Option (Marked (List TallyValue))) (marks : ℕ) : Type 0 where
   pub relayed : IsRelay DifferAt shown behind
   pub each : marks ≡ length shown

@@ -80,14 +80,14 @@ closes_in [] = 0
 closes_in (Closed (Ok t) ∷ answers) = closes_in answers + 1
 closes_in (answer ∷ answers) = closes_in answers
 
--- its superstep is at most the end, and at most so many of the closes went on
+-- its superstep is at most the end, and at least the number of closes that went on
 abbrev pub RunIsInTime : Type 0
 RunIsInTime = (j : Job) (p : ℕ) (calls : List Call) (answers : List CallAnswer) (v w : State) →
     HasContent j p start_content v → DidAll j p v calls answers w →
     (closes_in answers ≤ w.superstep)
     × (w.superstep ≤ end_of (mixing_of j.plan) j.graph j.plan.limit)
 
--- the verdict that the replica tells is stable exactly if the level is held, the superstep is not 0, and no vertex of
+-- the verdict of the replica is stable exactly if the level is held, the superstep is not 0, and no vertex of
 -- the graph is changed
 abbrev pub StableIsQuiet : Type 0
 StableIsQuiet = (j : Job) (p t : ℕ) (v : State) → StandsFor j p t v →

@@ -1,4 +1,4 @@
--- What a checkpoint tells of a replica, and when a replica is made of it.
+-- What a checkpoint has of a replica, and when a replica is made of it.
 use Rattle.std.specs.Prelude.{◌≡◌, ◌≢◌, ℕ, ◌+◌, ◌*◌, ◌^◌, ◌<◌, ◌≤◌, List, Option, map, length, slice_index_or}
 use Rattle.std.specs.Arc.{arc_value}
 use Rattle.std.specs.List.{All, sum_by}

@@ -1,4 +1,4 @@
--- What a replica tells another partition of its superstep.
+-- What a replica sends another partition of its superstep.
 use Rattle.std.specs.Prelude.{◌≡◌, ℕ, ◌+◌, ◌*◌, ◌^◌, ◌<◌, ◌≤◌, false, ◌&&◌, List, [], ◌∷◌, if◌then◌else◌, length, slice_index, slice_index_or}
 use Rattle.std.specs.List.{range_with_len, filter, flat_map, count_by, All}
 use Rattle.ball_model.specs.declared.names.BatchName.{BatchName}
@@ -53,7 +53,7 @@ pub record ChangedValue : Type 0 where
 unfoldable pub changed_first : State → ℕ → List ℕ
 changed_first v n = filter (λ i. slice_index_or v.marks i false) (range_with_len 0 n)
 
--- these are the vertices of the partition that changed, so many as marks are set
+-- these are the vertices of the partition that changed, as many as marks are set
 pub record AreChangedVertices (v : State) (vertices : List ℕ) : Type 0 where
   pub marks : length v.marks ≡ length v.part.preds
   pub list : vertices ≡ changed_first v (length v.part.preds)
@@ -65,7 +65,7 @@ pub record AreChanged (v : State) (changed : ChangedValue) : Type 0 where
   pub vertices : AreChangedVertices v changed.vertices
   pub registers : changed.registers ≡ changed_registers v
 
--- of the first n vertices so many changed, and what is sent of them are the rows of these vertices at these places
+-- of the first n vertices `changed` did, and what is sent of them are the rows of these vertices at these places
 pub record IsTold (v : State) (target n : ℕ) (ids places : List ℕ) (changed : ℕ) : Type 0 where
   pub rows : rows_at (2 ^ v.part.plan.log2m) (changed_registers v) ids places ≡ sent_rows v target n
   pub count : length ids ≡ length places

@@ -50,7 +50,7 @@ touched_at marks old new i =
     slice_index_or marks i false
     || not (bytes_eq (slice_index_or new i []) (slice_index_or old i []))
 
--- each place is one of so many
+-- each place is below the count
 abbrev pub LeadInside : ℕ → List (List ℕ) → Type 0
 LeadInside count targets = All (λ places. All (λ i. i < count) places) targets
 

@@ -3,7 +3,7 @@ use Rattle.std.specs.Prelude.{◌≡◌, ℕ, ◌+◌, ◌≤◌, ◌⊎◌, tru
 use Rattle.ball_model.specs.State.{State}
 use Rattle.replica.specs.Level.{is_over}
 
--- what it tells, the accumulators that it keeps beside the rows, those that are stale, and its room for sums
+-- what it shows, the accumulators that it keeps beside the rows, those that are stale, and its room for sums
 pub record StageValue : Type 0 where
   pub state : State
   pub kept : List (List ℕ)
@@ -31,7 +31,7 @@ pub record IsWhole (k : StageValue) : Type 0 where
   pub spare : k.spare ≡ []
   pub room : k.state.part.plan.limit + 1 ≤ k.room
 
--- what it tells is the same, and a replica can go on with it
+-- what it shows is the same, and a replica can go on with it
 pub record StaysSame (k new : StageValue) : Type 0 where
   pub same : new.state ≡ k.state
   pub goes_on : CanGoOn new

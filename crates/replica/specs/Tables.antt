@@ -140,7 +140,7 @@ pub record CanHearOwn (part : PartValue) (targets : List (List ℕ)) (a : Tables
   pub inside : LeadInside (length h.accumulated.rows) targets
   pub ahead : AreAhead part.plan.log2m a.rows h
 
--- it is heard too, and what others have told stays
+-- it is heard too, and what is heard of others stays
 pub record HearsOwn (part : PartValue) (targets : List (List ℕ)) (a : TablesValue)
     (h g : HearingValue) : Type 0 where
   pub ahead : AreAhead part.plan.log2m a.rows g

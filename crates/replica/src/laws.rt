@@ -9,7 +9,7 @@ ghost use Rattle.replica.specs.Saved.{HadFits};
 ///
 /// From superstep 0 and no batches, by any list of calls of `take` with true batches, of `close` and of `merge` with
 /// snapshots of replicas of the same partition, a replica stands for what the calls make of its content, and each call
-/// answers what the content says. Its superstep is at most the end, and at most so many of the closes went on. Its
+/// answers what the content says. Its superstep is at most the end, and at least the number of closes that went on. Its
 /// verdict is stable exactly if its level is held, the superstep is not 0, and no vertex of the graph is changed; then
 /// each of its rows is the counter of all counted vertices that can reach its vertex. If its verdict is that the run
 /// is over, it is at the end.

@@ -63,10 +63,10 @@ static CASES: [[&[Step]; 3]; 3] = [
     [&APART, &RECOVERED, &KEEPS],
 ];
 
-/// A snapshot of the one tells what it has.
+/// A snapshot of the one shows what it has.
 static KEEP: [Step; 1] = [Keep(0, None)];
 
-/// In each reader both tell the same.
+/// In each reader both show the same.
 static SAME: [Step; 2] = [Shows(0, 0), Shows(2, 0)];
 
 /// The two change places.

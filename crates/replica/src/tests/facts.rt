@@ -1,9 +1,9 @@
-//! What a replica is to tell.
+//! What a replica is to show.
 
 use super::shown::{Counter, vertex_of};
 use super::*;
 
-/// What a replica tells.
+/// What a replica shows.
 pub enum Fact {
     /// Which of the first five vertices it owns.
     Owns([bool; 5]),
@@ -25,7 +25,7 @@ pub enum Fact {
     Missing(Option<u16>),
     /// The verdict.
     Says(Option<Verdict>),
-    /// Whether it has heard partition 1, and whether a source that is heard tells of a change.
+    /// Whether it has heard partition 1, and whether a source that is heard has a change.
     Heard(bool, bool),
     /// Whether it holds what a source sent it of a superstep.
     Holds(u32, u16, bool),
@@ -84,7 +84,7 @@ fn has_row((row, empty): Counter<'_>, wanted: &[u8]) -> bool {
     row == wanted && empty as usize == zeros
 }
 
-/// Whether a replica tells this of a vertex, which it owns.
+/// Whether a replica shows this of a vertex, which it owns.
 fn is_told_of(replica: &Replica, x: u32, fact: &Fact) -> bool {
     let Some((counter, accumulated, figures, changed)) = vertex_of(replica, x) else {
         return false;
@@ -98,7 +98,7 @@ fn is_told_of(replica: &Replica, x: u32, fact: &Fact) -> bool {
     }
 }
 
-/// Whether a replica tells this.
+/// Whether a replica shows this.
 pub fn is_told(replica: &Replica, fact: &Fact) -> bool {
     match fact {
         Fact::Owns(wanted) => owned(replica) == *wanted,

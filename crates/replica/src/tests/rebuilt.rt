@@ -53,7 +53,7 @@ fn rebuilt(rt: &HostRuntime, part: Arc<Part>, saved: Saved) -> Option<Box<Replic
     Box::new(rt.alloc(), replica).ok()
 }
 
-/// A replica that is made of what a snapshot tells. It keeps one batch of a later superstep, which partition 1 tells
+/// A replica that is made of what a snapshot shows. It keeps one batch of a later superstep, which partition 1 tells
 /// still.
 fn again_of(rt: &HostRuntime, all: &[Replica], from: &Snapshot) -> Option<Box<Replica>> {
     let mut saved = saved_rows(rt, from)?;
@@ -87,7 +87,7 @@ pub const HEARS_AND_KEEPS: [Step; 8] = [
     See(0, Holds(2, 1, true)),
 ];
 
-/// Made again it tells the same, and runs on as it does.
+/// Made again it shows the same, and runs on as it does.
 const RUNS_ON: [Step; 18] = [
     Again(0),
     Keep(0, None),

@@ -16,7 +16,7 @@ const STARTS: [Step; 3] = [
     See(0, Row(0, ROW_A)),
 ];
 
-/// Partition 0 of a second run has done the same. Its snapshot tells what the other one has, which has made none yet.
+/// Partition 0 of a second run has done the same. Its snapshot has what the other one has, which has made none yet.
 const TWIN: [Step; 7] = [
     Add(TWO_EDGES),
     Round(2, 4),

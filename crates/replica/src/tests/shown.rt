@@ -1,4 +1,4 @@
-//! Whether a replica tells in each reader what a snapshot does.
+//! Whether a replica shows in each reader what a snapshot does.
 
 use super::*;
 
@@ -76,7 +76,7 @@ fn heard_of<S: Shown>(shown: &S) -> Heard {
     (shown.missing(), change, shown.heard(), names_of(shown))
 }
 
-/// Whether two batches tell the same.
+/// Whether two batches have the same.
 fn tells_same(left: &Batch, right: &Batch) -> bool {
     let mut same = left.plan() == right.plan()
         && left.name() == right.name()
@@ -98,7 +98,7 @@ fn is_same_early(left: Option<&Batch>, right: Option<&Batch>) -> bool {
 }
 
 /// Whether a replica keeps the batches of later supersteps that a snapshot does (of two partitions at most three), and
-/// tells of the first five vertices what it does.
+/// shows of the first five vertices what it does.
 fn shows_lists(replica: &Replica, snapshot: &Snapshot) -> bool {
     let mut same = replica.early_count() == snapshot.early_count();
     for i in 0..5 {
@@ -108,7 +108,7 @@ fn shows_lists(replica: &Replica, snapshot: &Snapshot) -> bool {
     same
 }
 
-/// Whether each reader of a replica tells what that of a snapshot does: of its level, of what it has heard, of the
+/// Whether each reader of a replica shows what that of a snapshot does: of its level, of what it has heard, of the
 /// batches that it keeps, of all rows, figures and sums, and of each vertex.
 pub fn shows_all(replica: &Replica, snapshot: &Snapshot) -> bool {
     let level = level_of(replica) == level_of(snapshot);

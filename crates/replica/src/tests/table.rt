@@ -6,7 +6,7 @@ use super::calls::told;
 use super::script::Told;
 use super::*;
 
-/// Whether a replica tells a partition this over the table of the rows that changed.
+/// Whether a replica sends a partition this over the table of the rows that changed.
 fn shares_one(
     rt: &HostRuntime,
     from: &Replica,
@@ -23,7 +23,7 @@ fn shares_one(
     Some(told(&batch) == wanted)
 }
 
-/// Whether a replica tells partitions 1 and 2 this over it: None if memory was refused.
+/// Whether a replica sends partitions 1 and 2 this over it: None if memory was refused.
 fn shares_both(
     rt: &HostRuntime,
     from: &Replica,
@@ -37,7 +37,7 @@ fn shares_both(
     Some(first && second)
 }
 
-/// Whether a replica tells both this over one table of so many bytes.
+/// Whether a replica sends both this over one table of that many bytes.
 fn shares_all(rt: &HostRuntime, from: &Replica, wanted: [Told; 2], length: usize) -> Option<bool> {
     let mut rows = Vec::new(rt.alloc());
     rows.extend_from_slice(&[7, 7, 7]).ok()?;

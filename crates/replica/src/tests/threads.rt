@@ -6,12 +6,12 @@ use super::*;
 use std::alloc::AllocGlobal;
 use std::thread::Threads;
 
-/// Whether two replicas tell the same sums at the same superstep.
+/// Whether two replicas show the same sums at the same superstep.
 fn tell_the_same(a: &Replica, b: &Replica) -> bool {
     a.superstep() == b.superstep() && a.sums() == b.sums()
 }
 
-/// Whether the second of two replicas, closed in so many threads, goes on as the first one does, to the end.
+/// Whether the second of two replicas, closed in that many threads, goes on as the first one does, to the end.
 fn go_on_alike<R: Threads + Sync>(rt: &R, all: &mut [Replica], threads: usize) -> bool {
     let [first, second] = all else {
         return false;
