@@ -62,7 +62,7 @@ list-fault-before labels past more i lt = ap (λ r. record_fault labels r i) (ge
 list-fault-next : (labels : List (List ℕ)) (past : List (List (List ℕ))) (r : List (List ℕ)) (more : List (List (List ℕ))) → list_fault_at labels (past ++ r ∷ more) (length past) ≡ record_fault labels r (length past)
 list-fault-next labels past r more = ap (λ s. record_fault labels s (length past)) (get_or-append_seam past r more [])
 
--- so many records were read, and the marks are theirs
+-- n records were read, and the marks are theirs
 pub record Counts {R : Type 0} (rem : R → Option (List ℕ)) (d : ℕ) (labels : List (List ℕ)) (n : ℕ) (text : List ℕ) (rdr : Reader R) (marks : List Bool) : Type 0 where
   pub past : List (List (List ℕ))
   pub at : IsLeft rem d text past rdr

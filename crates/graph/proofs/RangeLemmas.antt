@@ -1,4 +1,4 @@
--- Ranges of numbers, what is first told of one, and copies of one value.
+-- Ranges of numbers, the first value that a function gives over one, and copies of one value.
 use Rattle.std.proofs.Common.{◌≡◌, ℕ, zero, suc, ◌+◌, ◌<◌, ◌≤◌, Bool, true, List, ◌∷◌, get_or, replicate, refl, ap, arith, map}
 use Rattle.std.specs.List.{filter, range_with_len}
 use Rattle.std.specs.Prelude.{Option, Some, None}
@@ -9,7 +9,7 @@ pub filter_range-same : (p q : ℕ → Bool) (a n bound : ℕ) → a + n ≤ bou
 filter_range-same p q a zero bound le h = refl
 filter_range-same p q a (suc n) bound le h = rw (h a (omega arith), filter_range-same p q (a + 1) n bound (omega arith) h) refl
 
--- each of some copies, and what is told past them
+-- each of some copies, where a read past them gives the same value
 pub copies-at : {X : Type 0} (n i : ℕ) (x : X) → get_or (replicate n x) i x ≡ x
 copies-at zero i x = refl
 copies-at (suc n) zero x = refl

@@ -185,7 +185,7 @@ start-last text starts i n s some end =
     let apart : i ≡ s.begin → ⊥ = λ same. (let bad : true ≡ false = sym (eq-eqb i i refl) ∙ ap (λ (j : ℕ). i == j) same ∙ f in cc) in
     absurd (none-some text n some (lines-cut text i s.begin _ end (omega (arith, s.reads.within, apart)) s.reads)))
 
--- ---- so many of them
+-- ---- whether they are the number that is asked for
 pub many-these : (o : Option (List (List ℕ))) (n : ℕ) → Some n ≡ option_map (length {A = List ℕ}) o → if_so_many n o ≡ o
 many-these None n is = refl
 many-these (Some lines) n is = let same : length lines ≡ n = cc in rw (same, eq-eqb n n refl) refl
@@ -194,7 +194,7 @@ pub some-lines : (o : Option (List (List ℕ))) (n : ℕ) → Some n ≡ option_
 some-lines None n is = absurd (cc)
 some-lines (Some lines) n is = (lines, refl)
 
--- ---- labels with a gap of so many bytes after each
+-- ---- labels with a gap of n bytes after each
 pub length-shortened : (n : ℕ) (lists : List (List ℕ)) → length (shortened n lists) ≡ length lists
 length-shortened n lists = simp length-map
 

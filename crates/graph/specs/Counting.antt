@@ -22,7 +22,7 @@ pub record IsListRefusal
   pub read : network_in s input ≡ Ok all
   pub refused : RefusesList (counted_in s all list) e
 
--- this error is what one record of the list says, for which no memory is taken
+-- this error is what one record of the list says; a record takes no memory
 abbrev pub ListFaultIs : Option CountedRefusal → CountedError → Type 0
 ListFaultIs fault (refused.Fields number) = fault ≡ Some (NotOne number)
 ListFaultIs fault (refused.Unknown number) = fault ≡ Some (Unknown number)
@@ -57,7 +57,7 @@ pub record MarksLabel (labels : List (List ℕ)) (label : List ℕ) (old new : L
       slice_index_or new v true
       ≡ (bytes_eq label (slice_index_or labels v []) || slice_index_or old v true)
 
--- a record with these fields was marked
+-- the marks of any records before become those with a record of these fields after them
 abbrev pub MarksOne : List (List ℕ) → List (List ℕ) → List Bool → List Bool → Type 0
 MarksOne labels fields old new = (past : List (List (List ℕ))) → MarksAre labels past old →
     MarksAre labels (past ++ fields ∷ []) new

@@ -28,6 +28,6 @@ pub record AreMasks (step first parts : ℕ) (edges : List (ℕ × ℕ)) (masks 
       bit_at (slice_index masks i) r
       ≡ (if list_any (λ e. (e.0 == i * step + first) && (e.1 % parts == r)) edges then 1 else 0)
 
--- the feed mask of each vertex of a graph, for so many partitions
+-- the feed mask of each vertex of a graph, for a number of partitions
 unfoldable pub feeds_of : Graph → ℕ → List ℕ
 feeds_of g parts = map (λ x. feed_mask g parts x) (range_with_len 0 g.vertices)

@@ -12,6 +12,6 @@ texts labels = map (λ label. label.items) labels.keys
 abbrev pub has_label : List (List ℕ) → List ℕ → Bool
 has_label labels l = list_any (λ k. bytes_eq k l) labels
 
--- the labels with this one
+-- the labels, and this one after them if it is new
 abbrev pub with_label : List (List ℕ) → List ℕ → List (List ℕ)
 with_label labels l = if has_label labels l then labels else labels ++ l ∷ []

@@ -12,21 +12,21 @@ lines_after line (c ∷ text) =
     (if is_filled line then option_map (λ lines. line ∷ lines) (lines_after [] text) else None)
     else lines_after (line ++ c ∷ []) text
 
--- the lines, if they are so many
+-- the lines, if this is their number
 abbrev pub if_so_many : ℕ → Option (List (List ℕ)) → Option (List (List ℕ))
 if_so_many count None = None
 if_so_many count (Some lines) = if length lines == count then Some lines else None
 
--- the labels of so many vertices, if the text is so many lines
+-- the labels of a number of vertices, if the text has this number of lines
 abbrev pub labels_in : ℕ → List ℕ → Option (List (List ℕ))
 labels_in count text = if_so_many count (lines_after [] text)
 
--- it is what the text says, or memory was refused, if the text says labels
+-- these labels, or a refusal if there are none; memory is refused only where there are some
 abbrev pub GivesLines : Option (List (List ℕ)) → Result (List (List ℕ)) LinesError → Type 0
 GivesLines due (Ok labels) = due ≡ Some labels
 GivesLines due (Err refused.Lines) = due ≡ None
 GivesLines due (Err refused.Memory) = (labels : List (List ℕ)) × (due ≡ Some labels)
 
--- lists without so many items at the end of each
+-- lists without the last n items of each
 abbrev pub shortened : ℕ → List (List ℕ) → List (List ℕ)
 shortened n lists = map (λ xs. take (length xs - n) xs) lists

@@ -37,7 +37,7 @@ graph_of_lists lists = record {
   counted = range_with_len 0 (length lists);
 }
 
--- a list of predecessors for each label, and the number of counted vertices
+-- a list of predecessors for each label, and the number of counted vertices; labels may repeat
 pub record AreLinks (labels lists : List (List ℕ)) (marks : List Bool) (number : ℕ) : Type 0 where
   pub as_many : length lists ≡ length labels
   pub ascend : AllAscend (length lists) lists

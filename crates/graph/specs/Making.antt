@@ -26,12 +26,12 @@ abbrev pub LacksPlaces : List (List ℕ) → List ℕ → List ℕ → Type 0
 LacksPlaces labels source target =
     HasNoPlace labels source ⊎ HasNoPlace (with_label labels source) target
 
--- what was put together so far
+-- the labels and edges so far
 pub record Built : Type 0 where
   pub labels : List (List ℕ)
   pub edges : List Edge
 
--- it can become a graph
+-- they can become a graph
 pub record CanBeBuilt (labels : List (List ℕ)) (edges : List Edge) : Type 0 where
   pub vertices : length labels ≤ 2 ^ 31
   pub fit : length edges < 2 ^ 32

@@ -11,7 +11,7 @@ use Rattle.ball_model.specs.RunText.{Numbers}
 use Rattle.ball_model.specs.declared.plan.Estimate.{Estimate}
 use Rattle.ball_model.specs.declared.plan.Estimate.TheVariants.{Raw, Corrected}
 
--- the four numbers that a usual plan with raw estimates is asked for by
+-- the numbers of a usual plan with raw estimates
 abbrev pub numbers_of : ℕ → ℕ → ℕ → ℕ → Numbers
 numbers_of log2m seed parts limit = record {
   log2m = log2m;
@@ -43,7 +43,7 @@ abbrev pub is_corrected : Estimate → Bool
 is_corrected Raw = false
 is_corrected Corrected = true
 
--- with raw estimates or corrected ones
+-- the numbers of a usual plan, with raw estimates or corrected ones
 abbrev pub numbers_with : Bool → ℕ → ℕ → ℕ → ℕ → Numbers
 numbers_with corrected log2m seed parts limit = record {
   log2m = log2m;
@@ -54,7 +54,7 @@ numbers_with corrected log2m seed parts limit = record {
   large = false;
 }
 
--- the hasher was given these bytes more
+-- the hasher took these bytes
 abbrev pub Hashes : Sha256 → Sha256 → List ℕ → Type 0
 Hashes old new bytes = (m : List ℕ) → Holds256 old m → Holds256 new (m ++ bytes)
 

@@ -19,7 +19,7 @@ use std::hash::RandomState;
 use std::marker::Model;
 use thiserror::Error;
 
-// No graph has more edges.
+// The most edges of a graph.
 const MOST_EDGES: usize = 4_294_967_295;
 
 /// Why a vertex or an edge is not added.
@@ -166,8 +166,8 @@ impl GraphBuilder {
         }
     }
 
-    /// The graph of these labels and edges, each of which it has once. Every vertex is counted. The error is that memory
-    /// was refused.
+    /// The graph of these labels and edges, each of which it has once. Every vertex is counted. The error is that
+    /// memory was refused.
     pub fn finish(self, alloc: Global) -> Result<Graph, AllocError>
         ensures graph { IfOk result (λ g.
             g.graph ≡ graph_of_edges (length self.labels) self.edges) }

@@ -25,12 +25,12 @@ pub(crate) struct Shares {
     pub(crate) threads: usize,
     /// Fewer edges are coded by one thread.
     pub(crate) least: usize,
-    /// At most so many edges are coded in one round, unless they are of one target, and at most so many targets.
+    /// A round has at most this number of targets, and of edges too, unless one target alone has more.
     pub(crate) round: u32,
 }
 
 impl Shares {
-    /// Those of so many threads.
+    /// The usual shares for a number of threads.
     pub(crate) fn by(threads: usize) -> Shares {
         Shares {
             threads,
@@ -40,7 +40,7 @@ impl Shares {
     }
 }
 
-// Edges in order from the last on, of targets from one on and below another, among so many vertices.
+// Edges in reverse order, whose targets are from `from` on and below `to`, in a graph of `count` vertices.
 #[derive(Clone, Copy)]
 struct Block<'a> {
     edges: &'a [Edge],
@@ -86,8 +86,7 @@ fn code_block(alloc: Global, block: Block<'_>) -> Result<ListsBuilder, AllocErro
     Ok(builder)
 }
 
-// Where a block is cut in two: so many threads share its edges, and about as many as half of them are to code have a
-// target below this one.
+// The target at which a block is cut in two. The edges to targets below it are about the share of half of the threads.
 fn middle(block: Block<'_>, threads: usize) -> u32
     requires threads { 0 < threads }
     requires order { block.from ≤ block.to }
@@ -105,7 +104,7 @@ fn middle(block: Block<'_>, threads: usize) -> u32
     }
 }
 
-// Does what `code_block` does, by halves of halves, each in a thread of its own if one can be made.
+// Makes what `code_block` makes, by halves of halves, each in a thread of its own if one can be made.
 #[cycle(codes)]
 fn code_parts<R: Threads + Sync>(
     rt: &R,
@@ -137,7 +136,7 @@ fn code_parts<R: Threads + Sync>(
     code_both(rt, alloc, low, high, shares)
 }
 
-// The lists of two blocks, one after the other, which are made side by side.
+// The lists of two blocks, which are made side by side and then joined.
 #[cycle(codes)]
 fn code_both<R: Threads + Sync>(
     rt: &R,
@@ -179,8 +178,8 @@ fn code_both<R: Threads + Sync>(
     front?.append(&back?.finish())
 }
 
-// Where a round ends that begins with the first target of what is left: before the first target whose edges it does not
-// have as a whole, but after its own first one.
+// The target before which a round ends that begins with the first target of `rest`: the first one whose edges the round
+// has no room for, but never its own first one.
 fn round_end(rest: Block<'_>, round: u32) -> u32
     requires { rest.from < rest.to }
     ensures first { rest.entry.from < result }
@@ -194,8 +193,8 @@ fn round_end(rest: Block<'_>, round: u32) -> u32
     end.max(rest.from + 1)
 }
 
-// The lists of the next round after those that are there. Also tells the target at which the round ends, and how many
-// edges are before its own.
+// Appends the lists of the next round. Also returns the target before which the round ends, and how many edges stand
+// before those of the round.
 fn code_round<R: Threads + Sync>(
     rt: &R,
     alloc: Global,
@@ -227,8 +226,7 @@ fn code_round<R: Threads + Sync>(
     Ok((lists, to, place))
 }
 
-// The sources of the edges with each target, as `coded` makes them, and by several threads. The edges of a round are
-// dropped before those of the next are coded.
+// Makes what `coded` makes, by several threads. The edges of a round are dropped before those of the next are coded.
 fn code_rounds<R: Threads + Sync>(
     rt: &R,
     alloc: Global,
@@ -257,7 +255,7 @@ fn code_rounds<R: Threads + Sync>(
     Ok(builder.finish())
 }
 
-// The sources of the edges with each target: few edges are coded by one thread.
+// Makes what `coded` makes: one thread codes few edges, several code many.
 fn coded_by<R: Threads + Sync>(
     rt: &R,
     alloc: Global,
@@ -275,8 +273,8 @@ fn coded_by<R: Threads + Sync>(
     code_rounds(rt, alloc, edges, count, shares)
 }
 
-/// What [`crate::build::lists_of`] tells, by several threads. Beside what that takes, it holds the codes and places of
-/// one round twice: of one target, if that has more edges than a round.
+/// Makes what [`crate::build::lists_of`] makes, by several threads. Beside the memory that this takes, it holds the
+/// codes and places of one round twice.
 pub(crate) fn lists_of_by<R: Threads + Sync>(
     rt: &R,
     alloc: Global,

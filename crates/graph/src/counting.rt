@@ -43,7 +43,7 @@ impl From<AllocError> for CountedError {
     }
 }
 
-// The bytes of a list are there, so all that fails is memory.
+// A list is read from memory, so that only want of memory can make a read fail.
 impl From<csv::Error> for CountedError {
     ghost from_gives = { λ _ e. e ≡ Memory };
 
@@ -52,7 +52,7 @@ impl From<csv::Error> for CountedError {
     }
 }
 
-// The field of a record, if it has one alone that is not empty.
+// The only field of a record, unless it is empty.
 fn name<'a>(row: &'a ByteRecord) -> Option<&'a [u8]>
     ensures fields { IfSome result (λ name. fields_of row.now ≡ name.now ∷ []) }
     ensures is_name { IfSome result (λ name. is_name (fields_of row.now) ≡ true) }
@@ -70,7 +70,7 @@ fn name<'a>(row: &'a ByteRecord) -> Option<&'a [u8]>
     Some(field)
 }
 
-// Marks the vertices that a record names, which follows `number` others.
+// Marks the vertices that a record names, before which there are `number` others.
 fn mark_record(
     marks: &mut [bool],
     index: &Index<'_>,
@@ -92,7 +92,7 @@ fn mark_record(
     Ok(())
 }
 
-// Reads one record more, and tells whether there was one.
+// Reads the next record, and returns whether there was one.
 fn next_row<R: Read + Drop>(
     reader: &mut Reader<R>,
     row: &mut ByteRecord,
@@ -107,7 +107,7 @@ fn next_row<R: Read + Drop>(
     Ok(more && !is_blank(row))
 }
 
-// Marks the vertices that the records of a list name, which are fewer than `most`.
+// Marks the vertices that the records of a list name. There are fewer than `most` records.
 fn mark_all<R: Read + Drop>(
     marks: &mut [bool],
     index: &Index<'_>,
@@ -132,7 +132,6 @@ fn mark_all<R: Read + Drop>(
     Ok(())
 }
 
-// A mark for each of so many vertices, not set.
 fn no_marks(alloc: Global, count: usize) -> Result<Vec<bool>, AllocError>
     ensures { IfOk result (λ marks. marks.items ≡ replicate count false) }
 {
@@ -158,7 +157,7 @@ fn mark_list(
     mark_all(marks, index, &mut reader, &mut row, list.len() as u64 + 2)
 }
 
-// Marks the labels that a list names, by an index that is dropped then.
+// Marks the vertices that a list names, by an index that is dropped before the marks are used.
 fn mark_labels(
     alloc: Global,
     marks: &mut [bool],
@@ -203,14 +202,13 @@ pub(crate) fn vertex_mark(marks: &[bool], v: usize) -> bool
     if v < marks.len() { marks[v] } else { true }
 }
 
-// 1 for a mark that is set.
 fn bit(mark: bool) -> u32
     ensures { result ≡ (if mark then 1 else 0) }
 {
     if mark { 1 } else { 0 }
 }
 
-/// How many marks are set.
+/// The number of marks that are set.
 pub(crate) fn count_marks(marks: &[bool]) -> u32
     requires { length marks.now < 2 ^ 32 }
     ensures { result ≡ length (marked_vertices (length marks.now) marks.now) }

@@ -24,7 +24,6 @@ fn add_row(hasher: &mut Sha256, sources: Preds<'_>, target: u32)
     }
 }
 
-// Adds an edge.
 fn add_edge(hasher: &mut Sha256, source: u32, target: u32)
     ensures { Hashes hasher.old hasher.new (edge_bytes (source, target)) }
 {
@@ -32,7 +31,6 @@ fn add_edge(hasher: &mut Sha256, source: u32, target: u32)
     hasher.update(&target.to_be_bytes());
 }
 
-// Adds all edges of a graph.
 fn add_edges(hasher: &mut Sha256, graph: &Graph)
     ensures { Hashes hasher.old hasher.new (flat_map edge_bytes graph.now.graph.edges) }
 {
@@ -41,14 +39,13 @@ fn add_edges(hasher: &mut Sha256, graph: &Graph)
     }
 }
 
-// Adds bytes.
 fn add(hasher: &mut Sha256, bytes: &[u8])
     ensures { Hashes hasher.old hasher.new bytes.now }
 {
     hasher.update(bytes);
 }
 
-// Adds what digests of both forms have.
+// Adds what digests of both forms have after their magic.
 fn add_job(hasher: &mut Sha256, graph: &Graph, plan: &Plan)
     ensures { Hashes hasher.old hasher.new (job_bytes plan.now graph.now.graph) }
 {
@@ -61,7 +58,6 @@ fn add_job(hasher: &mut Sha256, graph: &Graph, plan: &Plan)
     add_edges(hasher, graph);
 }
 
-// Adds a vertex, if it is counted.
 fn add_if_counted(hasher: &mut Sha256, graph: &Graph, v: u32)
     requires { v < graph.now.graph.vertices }
     ensures { Hashes hasher.old hasher.new
@@ -100,7 +96,7 @@ fn add_first(hasher: &mut Sha256, corrected: bool)
     }
 }
 
-// Adds that of the second form.
+// Adds the magic of the second form.
 fn add_second(hasher: &mut Sha256, corrected: bool)
     ensures { Hashes hasher.old hasher.new (second_magic corrected) }
 {
@@ -141,8 +137,8 @@ impl Graph {
         Ok(self.signed(plan))
     }
 
-    /// That of a job whose estimates are corrected for small sets. Its digest is another, so that nothing of the two is
-    /// ever mixed. For a library's user: the program does not call it.
+    /// The plan of a job whose estimates are corrected for small sets. Its digest differs from that of the job with raw
+    /// estimates, so that the two are never mixed. For a library's user: the program does not call it.
     pub fn corrected_plan(
         &self,
         log2m: u8,
@@ -158,8 +154,8 @@ impl Graph {
         Ok(self.signed(raw.corrected([0; 32])))
     }
 
-    /// The job digest of a plan of these numbers, whatever digest it has. It takes no memory, and time in proportion to
-    /// the edges.
+    /// The job digest of a plan with these numbers, whatever digest the plan has. It takes no memory, and time in
+    /// proportion to the edges.
     pub fn digest(&self, plan: &Plan) -> [u8; 32]
         ensures { result ≡ digest_of plan.now self.now.graph }
     {

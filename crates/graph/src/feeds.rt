@@ -36,21 +36,19 @@ impl Model for Feeds {
 }
 
 impl Feeds {
-    // The feed masks of all vertices.
     pub(crate) fn of(masks: Arc<Masks>) -> Feeds
         ensures { result ≡ masks_of (arc_value masks) }
     {
         Feeds { masks }
     }
 
-    /// The masks.
     pub(crate) fn masks(&self) -> &Masks
         ensures { masks_of result.now ≡ self.now }
     {
         &*self.masks
     }
 
-    /// The masks, which are shared.
+    /// Another owner of the masks, which are not copied.
     pub(crate) fn shared_masks(&self) -> Result<Arc<Masks>, AllocError>
         ensures { IfOk result (λ masks. masks_of (arc_value masks) ≡ self.now) }
     {
@@ -122,7 +120,6 @@ fn mark_row(feeds: &mut Masks, plan: &Plan, stride: Stride, sources: Preds<'_>, 
     }
 }
 
-// Marks all edges of a graph.
 fn mark_edges(feeds: &mut Masks, plan: &Plan, stride: Stride, graph: &Graph)
     requires stride { stride.first < stride.step }
     requires size { length (masks_of feeds.old) ≡
@@ -140,7 +137,7 @@ fn mark_edges(feeds: &mut Masks, plan: &Plan, stride: Stride, graph: &Graph)
     }
 }
 
-/// The feed mask of each of these vertices, which are so many.
+/// The feed masks of the vertices of a stride, of which there are `size`.
 pub(crate) fn feeds_over(
     alloc: Global,
     graph: &Graph,

@@ -53,7 +53,7 @@ impl Model for Graph {
     ghost invariant = { λ g. AreLinks g.labels (arc_value g.lists) g.marks.items g.number };
 }
 
-// Written out, and so one call wherever one is dropped: the checker reads a derived one again at each place.
+// Written out, since the checker reads a derived drop anew wherever a graph is dropped.
 impl Drop for Graph {
     fn drop(self) {
         let Graph {
@@ -79,7 +79,7 @@ fn shared_lists_of(
     Ok(lists)
 }
 
-// The sources of the edges with each target, to be shared, by so many threads.
+// The same, by several threads.
 fn shared_lists_of_by<R: Threads + Sync>(
     rt: &R,
     alloc: Global,
@@ -115,7 +115,7 @@ impl Graph {
         })
     }
 
-    /// The graph that [`Graph::of_edges`] tells, by so many threads.
+    /// Makes what [`Graph::of_edges`] makes, by several threads.
     pub fn of_edges_by<R: Threads + Sync>(
         rt: &R,
         alloc: Global,
@@ -139,8 +139,8 @@ impl Graph {
         })
     }
 
-    /// The graph with these lists of predecessors, so many together, and these labels, which may repeat. Every vertex is
-    /// counted. Nothing is sorted or copied.
+    /// The graph of lists of predecessors, one a vertex, which have `edges` elements together. Every vertex is counted.
+    /// Labels may repeat. Nothing is sorted or copied; the error is that memory was refused.
     pub fn of_lists(
         alloc: Global,
         labels: Labels,
@@ -202,7 +202,7 @@ impl Graph {
         self.lists.list(v as usize)
     }
 
-    /// The lists of predecessors of all vertices, which are shared.
+    /// Another owner of the lists of predecessors, which are not copied.
     pub(crate) fn shared_lists(&self) -> Result<Arc<PredLists>, AllocError>
         ensures { IfOk result (λ lists. arc_value lists ≡ map
             (λ x. preds_of self.now.graph x) (vertices_of self.now.graph.vertices 1 0)) }
@@ -219,7 +219,7 @@ impl Graph {
         vertex_mark(&self.marks, v as usize)
     }
 
-    // Counts only the marked vertices, if there are marks. It takes no memory: its error is the one that is in their place.
+    // Counts only the marked vertices. An error in place of the marks is returned, and then nothing changes.
     fn count_marked(&mut self, marks: Result<Vec<bool>, CountedError>) -> Result<(), CountedError>
         requires size { IfOk marks (λ m. length m.items ≡ length self.old.labels) }
         requires few { length self.old.labels ≤ most_vertices }
@@ -234,12 +234,13 @@ impl Graph {
         Ok(())
     }
 
-    /// Counts only the vertices whose labels a list names, in place of those that were counted before.
+    /// Counts only the vertices whose labels a list names, in place of those that were counted before. Where labels
+    /// repeat, a name is that of all vertices with the label.
     ///
-    /// The list is read as an edge list is: its lines, comments and the numbers of its records are the same. Each
-    /// record is one identifier, and one that is named twice counts once. An error leaves the graph as it was. It is
-    /// that of the first record at which a check fails: `Fields` if the record is not one field, or an empty one, and
-    /// `Unknown` if it names no vertex.
+    /// The list is read as an edge list is: with the same lines, comments and numbers of records. Each record is one
+    /// identifier; to name one twice changes nothing. An error leaves the graph as it was, and is that of the first
+    /// record at which a check fails: `Fields` if the record is not one field, or an empty one, and `Unknown` if it
+    /// names no vertex.
     ///
     /// Plans that were made before are of another job. It takes 5 bytes a vertex, of which one stays, and time in
     /// proportion to n log n of the n vertices, for sorting their numbers by label, and to the list.

@@ -20,13 +20,13 @@ use thiserror::Error;
 // Ends the line of a label.
 const LF: u8 = b'\n';
 
-/// Why a text is not taken as the labels of so many vertices.
+/// Why a text is refused as the labels of vertices.
 #[derive(Clone, Copy, Debug, PartialEq, Eq, Error)]
 pub enum LinesError {
-    /// It has another number of lines, one of them is empty, or the last has no LF.
+    /// The lines are not as many as the vertices, one is empty, or the last has no LF.
     #[error("the labels are not as many as the vertices, or one is empty")]
     Lines,
-    /// Memory was refused, though the text is as it should be.
+    /// Memory was refused, and the text has all that is asked of it.
     #[error("out of memory")]
     Memory,
 }
@@ -39,12 +39,13 @@ impl From<AllocError> for LinesError {
     }
 }
 
-/// Labels, one after another, and the place where each begins. It takes 4 bytes a label beside the labels' own.
+/// Labels, one after another, and the place where each begins. It takes 4 bytes a label beside the labels' own, and one
+/// for each LF if they are lines of a text.
 #[derive(Drop)]
 pub struct Labels {
     bytes: Vec<u8>,
     starts: Places,
-    /// How many bytes after each label are not part of it.
+    // How many bytes stand after each label that are not part of it.
     gap: usize,
 }
 
@@ -72,14 +73,14 @@ fn total(texts: &[Vec<u8>]) -> usize
     sum
 }
 
-// Where the first text begins; there is room for so many others.
+// Where the first text begins, and room for where `count` texts end.
 fn first_start(alloc: Global, count: usize) -> Result<Places, AllocError>
     ensures { IfOk result (λ starts. starts ≡ 0 ∷ []) }
 {
     Places::with_room(alloc, count.saturating_add(1))?.push(0)
 }
 
-// Puts a copy of a text after the others, and where it ends after the places.
+// Appends a copy of a text, and the place where it ends.
 fn put_text(bytes: &mut Vec<u8>, starts: Places, text: &[u8]) -> Result<Places, AllocError>
     requires { Ascend (length bytes.old.items) starts }
     ensures starts { IfOk result (λ more. Ascend (length bytes.new.items) more) }
@@ -90,7 +91,7 @@ fn put_text(bytes: &mut Vec<u8>, starts: Places, text: &[u8]) -> Result<Places, 
     starts.push(bytes.len() as u128)
 }
 
-// Puts copies of texts one after another, and tells where each of them begins and the last ends.
+// Puts copies of texts one after another, and returns where each begins and the last ends.
 fn put_texts(alloc: Global, bytes: &mut Vec<u8>, texts: &[Vec<u8>]) -> Result<Places, AllocError>
     requires { bytes.old.items ≡ [] }
     ensures starts { IfOk result (λ starts. Ascend (length bytes.new.items) starts) }
@@ -104,7 +105,7 @@ fn put_texts(alloc: Global, bytes: &mut Vec<u8>, texts: &[Vec<u8>]) -> Result<Pl
     Ok(starts)
 }
 
-// How many lines a text is; none if one of them is empty, or the last has no LF.
+// The number of lines of a text; `None` if one is empty, or the last has no LF.
 fn count_lines(text: &[u8]) -> Option<usize>
     ensures { result ≡ option_map length (lines_after [] text.now) }
 {
@@ -156,10 +157,11 @@ impl Labels {
         })
     }
 
-    /// The labels of so many vertices, as the lines of a text: an LF ends each, and none is empty. The text is taken
-    /// over as it is. Labels may repeat.
+    /// The labels of `count` vertices, one a line: each line ends with LF, and none is empty. Labels may repeat. The
+    /// text is taken over as it is. It is checked as a whole before memory is asked for, 4 bytes a label.
     pub fn of_lines(alloc: Global, text: Vec<u8>, count: u32) -> Result<Labels, LinesError>
-        ensures { GivesLines (labels_in count text.items) result }
+        ensures value { GivesLines (labels_in count text.items) result }
+        ensures count { IfOk result (λ labels. length labels ≡ count) }
     {
         let Some(found) = count_lines(&text) else {
             return Err(LinesError::Lines);
@@ -175,15 +177,14 @@ impl Labels {
         })
     }
 
-    /// The number of labels.
-    pub fn len(&self) -> usize
+    pub(crate) fn len(&self) -> usize
         ensures { result ≡ length self.now }
     {
         self.starts.len() - 1
     }
 
     /// Label i, or an empty one if there is none.
-    pub fn text(&self, i: u32) -> &[u8]
+    pub(crate) fn text(&self, i: u32) -> &[u8]
         ensures { result.now ≡ slice_index_or self.now i [] }
     {
         if (i as usize) < self.len() {
@@ -193,8 +194,7 @@ impl Labels {
         }
     }
 
-    /// Label i.
-    pub fn label(&self, i: usize) -> &[u8]
+    pub(crate) fn label(&self, i: usize) -> &[u8]
         requires { i < length self.now }
         ensures { result.now ≡ slice_index_or self.now i [] }
     {
@@ -221,8 +221,8 @@ pub fn find_label(labels: &IndexSet<Vec<u8>, RandomState>, label: &[u8]) -> Opti
     labels.get_index_of(label)
 }
 
-/// Puts a label into the set, at the end if it is new, and tells its number. The error is that memory was refused; the set
-/// is then as it was.
+/// Puts a label into the set, at the end if it is new, and returns its number. The error is that memory was refused;
+/// the set is then as it was.
 pub fn insert_label(
     alloc: Global,
     labels: &mut IndexSet<Vec<u8>, RandomState>,

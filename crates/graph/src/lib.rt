@@ -1,11 +1,12 @@
 //! Graphs of labelled vertices, the plans of jobs over them, and the parts that partitions work on.
 //!
-//! [`Graph::of_edges`] makes a [`Graph`] of [`Labels`] and of [`Edge`]s, whoever read these, and [`GraphBuilder`] of
-//! labels and edges one after another. [`Graph::count_only`] says which of the vertices balls count, [`Graph::plan`]
-//! gives the plan of a job over a graph, and [`Graph::part`] the [`Part`] of one partition. If all parts are made,
+//! A [`Graph`] is made of [`Labels`] and [`Edge`]s ([`Graph::of_edges`]), of labels that are lines of a text
+//! ([`Labels::of_lines`]) and lists that are coded already ([`Graph::of_lists`]), or of labels and edges one after
+//! another ([`GraphBuilder`]). [`Graph::count_only`] sets which of the vertices balls count, [`Graph::plan`] gives the
+//! plan of a job over a graph, and [`Graph::part`] the [`Part`] of one partition. Where all parts are made,
 //! [`Graph::part_with`] makes each by [`Graph::feeds`], so that the edges are walked over once for the masks of all. It
-//! takes a plan without its digest too: [`Graph::digest`] tells that while parts are made, and [`Part::with_job`] puts
-//! it in. [`reader_of`] reads the records of a text.
+//! also takes a plan without its digest: [`Graph::digest`] may run beside it, and [`Part::with_job`] puts the digest
+//! in. [`reader_of`] reads the records of a text.
 #![tactic(auto)]
 
 mod build;

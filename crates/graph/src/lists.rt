@@ -22,7 +22,6 @@ impl<'a> Model for Preds<'a> {
 }
 
 impl<'a> Preds<'a> {
-    // The predecessors that a list of codes has.
     pub(crate) fn of(elements: Elements<'a>) -> Preds<'a>
         ensures { result ≡ elements.entry }
     {
@@ -44,7 +43,7 @@ impl<'a> Iterator for Preds<'a> {
 
 /// Lists of predecessors, and how many these are together.
 #[derive(Drop)]
-pub struct PredLists {
+pub(crate) struct PredLists {
     codes: gapcode::Lists,
     total: usize,
 }
@@ -62,8 +61,8 @@ impl Model for PredLists {
 }
 
 impl PredLists {
-    /// These lists, which have so many elements together.
-    pub fn of(codes: gapcode::Lists, total: usize) -> PredLists
+    /// These lists, which have `total` elements together.
+    pub(crate) fn of(codes: gapcode::Lists, total: usize) -> PredLists
         requires total { total ≡ sum_by length codes }
         requires few { total < 2 ^ 32 }
         ensures { result ≡ codes }
@@ -71,8 +70,7 @@ impl PredLists {
         PredLists { codes, total }
     }
 
-    /// The number of lists.
-    pub fn len(&self) -> usize
+    pub(crate) fn len(&self) -> usize
         ensures count { result ≡ length self.now }
         ensures few { sum_by length self.now < 2 ^ 32 }
     {
@@ -81,15 +79,15 @@ impl PredLists {
     }
 
     /// The number of elements of all lists.
-    pub fn total(&self) -> usize
+    pub(crate) fn total(&self) -> usize
         ensures value { result ≡ sum_by length self.now }
         ensures few { result < 2 ^ 32 }
     {
         self.total
     }
 
-    /// A list between these two; about half of the codes of those between come before it.
-    pub fn middle(&self, from: usize, to: usize) -> usize
+    /// A list between these two, before which about half of the codes between them stand.
+    pub(crate) fn middle(&self, from: usize, to: usize) -> usize
         requires order { from ≤ to }
         requires inside { to ≤ length self.now }
         ensures first { from ≤ result }
@@ -98,8 +96,7 @@ impl PredLists {
         self.codes.middle(from, to)
     }
 
-    /// List i.
-    pub fn list(&self, i: usize) -> Preds<'_>
+    pub(crate) fn list(&self, i: usize) -> Preds<'_>
         requires { i < length self.now }
         ensures { result ≡ slice_index_or self.now i [] }
     {

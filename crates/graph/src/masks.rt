@@ -15,7 +15,7 @@ pub(crate) enum Masks {
 }
 
 impl Masks {
-    // Masks with no bit set, which have room for so many bits.
+    // Masks of which no bit is set, each with room for `bits` bits.
     pub(crate) fn zeros(alloc: Global, count: usize, bits: u32) -> Result<Masks, AllocError>
         requires { bits ≤ most_parts }
         ensures masks { IfOk result (λ masks. masks_of masks ≡ replicate count 0) }
@@ -28,7 +28,6 @@ impl Masks {
         }
     }
 
-    // Mask i.
     pub(crate) fn get(&self, i: usize) -> u64
         requires { i < length (masks_of self.now) }
         ensures { result ≡ slice_index (masks_of self.now) i }
@@ -39,7 +38,6 @@ impl Masks {
         }
     }
 
-    // Sets a bit of mask i.
     pub(crate) fn set_bit(&mut self, i: usize, bit: u32)
         requires index { i < length (masks_of self.old) }
         requires room { bit < width_of self.old }

@@ -69,7 +69,7 @@ impl Part {
         &self.plan
     }
 
-    /// Does nothing. Its contract tells the limits of every part, for proofs.
+    /// Does nothing. Its contract states the limits of every part, for proofs.
     #[inline(always)]
     pub fn limits(&self)
         ensures part { IsPart self.now }
@@ -115,8 +115,8 @@ impl Part {
         self.lists.list(i as usize)
     }
 
-    /// A vertex between those with these two indexes, at which the work on their predecessors is cut in two: about half
-    /// of their codes come before it. It takes time as the number of digits of the vertices between.
+    /// The index, between these two, at which the work on predecessors is cut in two: about half of the codes between
+    /// them stand before it. It takes time logarithmic in the number of vertices between.
     pub fn middle(&self, from: u32, to: u32) -> u32
         requires order { from ≤ to }
         requires inside { to ≤ length self.now.preds }
@@ -174,7 +174,7 @@ fn vertex_at(plan: &Plan, p: u16, i: u32) -> u32
     i * u32::from(plan.parts()) + u32::from(p)
 }
 
-// Puts predecessors in place of what the row had.
+// Replaces what the row had by predecessors.
 fn put_preds(row: &mut Vec<u32>, preds: Preds<'_>) -> Result<(), AllocError>
     ensures { OnOk result (row.new.items ≡ preds.entry) }
 {
@@ -185,7 +185,7 @@ fn put_preds(row: &mut Vec<u32>, preds: Preds<'_>) -> Result<(), AllocError>
     Ok(())
 }
 
-// The lists with these predecessors after them; the row is room for the predecessors.
+// Appends the list of these predecessors. The row is its working memory.
 fn push_preds(
     builder: ListsBuilder,
     row: &mut Vec<u32>,
@@ -218,7 +218,7 @@ fn own_lists(alloc: Global, graph: &Graph, plan: &Plan, p: u16) -> Result<PredLi
     Ok(PredLists::of(builder.finish(), total))
 }
 
-// The predecessors of each vertex of partition `p`, which are the graph's own lists if there is one partition.
+// The predecessors of each vertex of partition `p`; the graph's own lists, shared, if there is one partition.
 fn part_lists(
     alloc: Global,
     graph: &Graph,
@@ -237,7 +237,7 @@ fn part_lists(
     Ok(lists)
 }
 
-// What each vertex of partition `p` has, of what all vertices have.
+// What the vertices of partition `p` have, of what all vertices have.
 fn own_of<T: Copy>(alloc: Global, all: &[T], plan: &Plan, p: u16) -> Result<Vec<T>, AllocError>
     requires part { p < plan.now.parts }
     requires count { length all.now ≡ plan.now.vertices }
@@ -253,7 +253,7 @@ fn own_of<T: Copy>(alloc: Global, all: &[T], plan: &Plan, p: u16) -> Result<Vec<
     Ok(own)
 }
 
-// The masks that the vertices of partition `p` have, of those that all vertices have.
+// The masks of the vertices of partition `p`, of the masks of all vertices.
 fn own_masks(alloc: Global, all: &Masks, plan: &Plan, p: u16) -> Result<Masks, AllocError>
     requires part { p < plan.now.parts }
     requires count { length (masks_of all.now) ≡ plan.now.vertices }
@@ -267,7 +267,7 @@ fn own_masks(alloc: Global, all: &Masks, plan: &Plan, p: u16) -> Result<Masks, A
     }
 }
 
-// The masks that the vertices of partition `p` have, which are all of them if there is one partition.
+// The masks of the vertices of partition `p`; those of all vertices, shared, if there is one partition.
 pub(crate) fn part_feeds(
     alloc: Global,
     feeds: &Feeds,
@@ -287,7 +287,7 @@ pub(crate) fn part_feeds(
     Ok(masks)
 }
 
-// The feed mask of each vertex of partition `p`, for which all edges are walked over.
+// The feed mask of each vertex of partition `p`, by a walk over all edges.
 pub(crate) fn own_feeds(
     alloc: Global,
     graph: &Graph,

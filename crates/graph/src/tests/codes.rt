@@ -70,8 +70,8 @@ fn are_lists(lists: &PredLists) -> bool {
     right
 }
 
-// Whether these lists are made, if the work is dealt out so.
-fn are_told<R: AllocGlobal + Threads + Sync>(rt: &R, shares: Shares) -> bool {
+// Whether these lists are made, if the work is dealt out by these shares.
+fn are_made<R: AllocGlobal + Threads + Sync>(rt: &R, shares: Shares) -> bool {
     let Ok(edges) = edges(rt.alloc()) else {
         return false;
     };
@@ -86,8 +86,8 @@ static THREADS: [usize; 4] = [1, 2, 3, 8];
 // Target 2 has more edges than the first rounds take.
 static ROUNDS: [u32; 5] = [0, 1, 2, 3, 100];
 
-// Whether they are made by so many threads in each way.
-fn are_told_by<R: AllocGlobal + Threads + Sync>(rt: &R, threads: usize) -> bool {
+// Whether they are made by this number of threads, by any shares.
+fn are_made_by<R: AllocGlobal + Threads + Sync>(rt: &R, threads: usize) -> bool {
     let mut right = true;
     for round in &ROUNDS {
         for least in 0..4 {
@@ -96,7 +96,7 @@ fn are_told_by<R: AllocGlobal + Threads + Sync>(rt: &R, threads: usize) -> bool 
                 least,
                 round: *round,
             };
-            right &= are_told(rt, shares);
+            right &= are_made(rt, shares);
         }
     }
     right
@@ -106,7 +106,7 @@ fn are_told_by<R: AllocGlobal + Threads + Sync>(rt: &R, threads: usize) -> bool 
 fn lists_round_by_round(rt: HostRuntime) {
     let mut right = true;
     for threads in &THREADS {
-        right &= are_told_by(&rt, *threads);
+        right &= are_made_by(&rt, *threads);
     }
     assert!(rt; right);
 }

@@ -5,8 +5,8 @@ use Rattle.graph.specs.Lines.{lines_after}
 use Rattle.graph.proofs.TextLemmas.{many-these, some-lines}
 use Rattle.graph.proofs.labels.Labels.of_lines.Goals as goal
 
-pub returns-in_err-starts : goal.returns-in_err-starts
-returns-in_err-starts c =
+pub returns-in_err-starts-clause-value : goal.returns-in_err-starts-clause-value
+returns-in_err-starts-clause-value c =
     let p = err_from_is_err_and c.from_residual.result c.from_residual.ensures.1 in
     let lines = lines_after [] c.args.text.items in
     let found : c.in-Some.found ≡ c.args.count = omega (arith, c.if-found-count.false) in
