@@ -1,5 +1,5 @@
 -- One more edge.
-use Rattle.std.proofs.Common.{◌≡◌, ℕ, ◌+◌, ◌<◌, ◌≤◌, Bool, true, false, if◌then◌else◌, List, [], ◌∷◌, ◌++◌, length, refl, ap, arith, sym, subst, take, ◌∙◌}
+use Rattle.std.proofs.Common.{◌≡◌, ℕ, ◌<◌, ◌≤◌, Bool, true, false, if◌then◌else◌, List, [], ◌∷◌, ◌++◌, length, refl, ap, arith, sym, subst, take, ◌∙◌}
 use Rattle.graph.specs.Edges.{AllBelow, edge_of}
 use Rattle.graph.specs.declared.edge.Edge.{Edge}
 use Rattle.std.specs.List.{list_any}

@@ -1,5 +1,5 @@
 -- The labels of vertices.
-use Rattle.std.specs.Prelude.{ℕ, List, map, ◌+◌, Bool, [], ◌∷◌, ◌++◌, if◌then◌else◌}
+use Rattle.std.specs.Prelude.{ℕ, List, map, Bool, [], ◌∷◌, ◌++◌, if◌then◌else◌}
 use Rattle.std.specs.Global.{Vec}
 use Rattle.indexmap.specs.IndexSet.{IndexSet}
 use Rattle.std.specs.List.{list_any}

@@ -1,5 +1,5 @@
 -- Labels as the lines of a text: an LF after each, and none is empty.
-use Rattle.std.specs.Prelude.{◌≡◌, ℕ, ◌+◌, ◌-◌, ◌==◌, List, [], ◌∷◌, ◌++◌, if◌then◌else◌, length, map, take, Option, None, Some, option_map, Result, Ok, Err}
+use Rattle.std.specs.Prelude.{◌≡◌, ℕ, ◌-◌, ◌==◌, List, [], ◌∷◌, ◌++◌, if◌then◌else◌, length, map, take, Option, None, Some, option_map, Result, Ok, Err}
 use Rattle.ball_model.specs.Input.{is_filled}
 use Rattle.graph.specs.declared.labels.LinesError.{LinesError}
 use Rattle.graph.specs.declared.labels.LinesError.TheVariants as refused

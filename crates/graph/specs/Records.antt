@@ -1,5 +1,5 @@
 -- How the records of a text are read.
-use Rattle.std.specs.Prelude.{◌≡◌, ℕ, Bool, true, false, not, List, [], ◌∷◌, ◌++◌, if◌then◌else◌, Option, None, Some, ◌+◌}
+use Rattle.std.specs.Prelude.{◌≡◌, ℕ, Bool, true, false, not, List, [], ◌∷◌, ◌++◌, if◌then◌else◌, Option, None, Some}
 use Rattle.std.specs.List.{filter}
 use Rattle.csv.specs.Machine.{ends_at_end, field_after, fields_after, is_end, step}
 use Rattle.csv.specs.Reading.{ReadRecord, Ready, is_flexible, source_of}

@@ -1,4 +1,4 @@
-use Rattle.std.proofs.Common.{◌≡◌, ◌∙◌, ◌+◌, ℕ, List, length, ap, arith, sym}
+use Rattle.std.proofs.Common.{◌≡◌, ◌∙◌, ℕ, List, length, ap, arith, sym}
 use Rattle.std.specs.Prelude.{Some, option_map}
 use Rattle.graph.proofs.TextLemmas.{count-start, count-byte, count-end, lines-empty, lines-whole, lines-cut}
 use Rattle.graph.proofs.labels.count_lines.Goals as goal
