@@ -8,14 +8,7 @@
 //! events the world is what the definition makes of it: each replica at superstep t has for each of its vertices the
 //! registers of exactly the counted vertices with a path of at most t edges to it ([`laws::headline`]).
 //!
-//! ```text
-//! let mut world = World::new(alloc, &graph, &plan, 1)?;
-//! world.apply(alloc, Event::Send { node: a, target: 1 })?       // Sent { message: 0, .. }
-//! world.apply(alloc, Event::Close { node: b })?                 // NotClosed(Waiting { source: 0 })
-//! world.apply(alloc, Event::Deliver { message: 0, node: b })?   // Took(New)
-//! world.apply(alloc, Event::Close { node: b })?                 // Closed { superstep: 1 }
-//! world.node(b)                                                 // its replica, at superstep 1
-//! ```
+//! Proved callers: `uses::of_world::{start, send_and_close, superstep_of, answers}`.
 //!
 //! [`replay::replay`] plays a script, a command on each line, over an edge list, and writes the answers;
 //! [`replay::replay_watched`] also calls an [`job::Watch`] as it proceeds.
