@@ -111,7 +111,7 @@ cut-made b s o i j k row v w form at middle end is first second =
       target = λ lt. key-of-second b s o j k row w middle end is second lt;
     }
 
--- ---- what is told of a record
+-- ---- a record that was cut
 
 pub at-record : (b : List ℕ) (rs : List CutRecord) (i : ℕ) (r : CutRecord) → i < length rs → r ≡ get_or rs i r → get_or (map (cut_fields b) rs) i [] ≡ cut_fields b r
 at-record b rs i r lt here = get_or-map (cut_fields b) rs i r [] lt ∙ ap (cut_fields b) (sym here)
@@ -134,7 +134,7 @@ form-two (x ∷ s) [] lt some = absurd (omega arith)
 form-two (x ∷ s) (y ∷ t) lt some = refl
 
 -- its form, and the keys of its fields
-pub form-cut : (b : List ℕ) (r : CutRecord) → IsCut b r → HasForm (cut_fields b r)
+form-cut : (b : List ℕ) (r : CutRecord) → IsCut b r → HasForm (cut_fields b r)
 form-cut b r h =
     let lt = h.first in
     let le = h.second in

@@ -1,4 +1,4 @@
--- Keys of short labels, and entries that tell their numbers.
+-- Keys of short labels, and the entries with their numbers.
 use Rattle.std.proofs.Common.{◌≡◌, ◌≢◌, ◌∙◌, ℕ, ◌+◌, ◌-◌, ◌*◌, ◌^◌, ◌<◌, ◌≤◌, true, false, ◌==◌, ◌&&◌, List, [], ◌∷◌, ◌++◌, length, get_or, set, take, drop, replicate, refl, ap, ap₂, arith, sym, subst, pow_mono}
 use Rattle.std.specs.Prelude.{min, Option, None, Some}
 use Rattle.std.specs.List.{list_any, All}
@@ -35,7 +35,7 @@ same-after v w (x ∷ xs) (y ∷ ys) long p q is =
     (omega (arith, later.0, small.0, small.1), rw (same_digit, later.1) refl)
 
 -- short labels with the same key are the same
-pub key-same : (a b : List ℕ) → IsShort a → IsShort b → key_of a ≡ key_of b → a ≡ b
+key-same : (a b : List ℕ) → IsShort a → IsShort b → key_of a ≡ key_of b → a ≡ b
 key-same a b short_a short_b is =
     let low : bytes_after 0 (take 8 a) ≡ bytes_after 0 (take 8 b) = ap (λ (w : LabelKey). w.low) is in
     let high : bytes_after 0 (drop 8 a) * 256 + length a + 1 ≡ bytes_after 0 (drop 8 b) * 256 + length b + 1 = ap (λ (w : LabelKey). w.high) is in
@@ -65,12 +65,12 @@ same-numbers a b t =
     ap₂ make (eqb-true a.low b.low low) (eqb-true a.high b.high high))
     (λ f. absurd (let bad = rw f at t in cc))
 
--- an entry of the key of a label tells its number
+-- an entry of the key of a label has its number
 pub tells-one : (labels : List (List ℕ)) (label : List ℕ) (entry : LabelGuess) → IsShort label → StandsAt labels label entry.number → entry_key entry ≡ key_of label → IsGuess labels entry
 tells-one labels label entry short stands told other shorter is =
     subst (λ (l : List ℕ). StandsAt labels l entry.number) (sym (key-same other label shorter short (is ∙ told))) stands
 
--- a blank entry tells nothing
+-- a blank entry is of no label
 tells-none : (labels : List (List ℕ)) → IsGuess labels blank_entry
 tells-none labels label short is = absurd (let none : bytes_after 0 (drop 8 label) * 256 + length label + 1 ≡ 0 = ap (λ (w : LabelKey). w.high) is in omega (arith, none))
 
@@ -90,7 +90,7 @@ told-set labels entries i e lt told tells = record {
       rw kept (told.each k));
 }
 
--- an entry with the key of a label tells its number
+-- an entry with the key of a label has its number
 pub told-at : (labels : List (List ℕ)) (entries : List LabelGuess) (label : List ℕ) (key : LabelKey) (i : ℕ) (e d : LabelGuess) → e ≡ get_or entries i d → i < length entries → AreGuesses labels entries → IsShort label → key ≡ key_of label
     → ((e.low == key.low) && (e.high == key.high)) ≡ true → StandsAt labels label e.number
 told-at labels entries label key i e d is lt told short key_is t =

@@ -104,7 +104,7 @@ read-two records old new edges edges' a b so adds =
           ∙ sym (links_push records (a ∷ b ∷ []));
     }
 
-pub label-eq : (labels : List (List ℕ)) (i j : ℕ) → Apart labels → i < length labels → j < length labels → bytes_eq (get_or labels i []) (get_or labels j []) ≡ (i == j)
+label-eq : (labels : List (List ℕ)) (i j : ℕ) → Apart labels → i < length labels → j < length labels → bytes_eq (get_or labels i []) (get_or labels j []) ≡ (i == j)
 label-eq labels i j h lo hi =
     both_ways _ _
     (λ t. let e : i ≡ j = apart-at labels i j h lo hi (same_text _ _ (sym t)) in subst (λ (k : ℕ). (i == k) ≡ true) e (eq-eqb i i refl))

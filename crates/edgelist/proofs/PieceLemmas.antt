@@ -26,7 +26,7 @@ pub through-none : (limits : Limits) → IsThrough limits 0 [] [] []
 through-none limits = record { count = refl; so = read-none; clean = clean-none limits }
 
 -- a record more that was added
-pub through-more : (limits : Limits) (n : ℕ) (rs : Records) (f : List (List ℕ)) (labels labels' : List (List ℕ)) (edges edges' : List Edge) →
+through-more : (limits : Limits) (n : ℕ) (rs : Records) (f : List (List ℕ)) (labels labels' : List (List ℕ)) (edges edges' : List Edge) →
     IsThrough limits n rs labels edges → AddsRecord limits n f labels edges labels' edges' → IsThrough limits (n + 1) (rs ++ f ∷ []) labels' edges'
 through-more limits n rs f labels labels' edges edges' t adds = record {
   count = omega (arith, length-append rs (f ∷ []), t.count);
@@ -36,34 +36,34 @@ through-more limits n rs f labels labels' edges edges' t adds = record {
 
 -- ---- some records of a text that were read after others
 
-pub part-read-start : {R : Type 0} (rem : R → Option (List ℕ)) (d : ℕ) (limits : Limits) (n : ℕ) (before : Records) (text : List ℕ) (rdr : Reader R) (labels : List (List ℕ)) (edges : List Edge) →
-    IsLeft rem d text [] rdr → IsThrough limits n before labels edges → IsPartRead rem d limits n before text rdr labels edges
-part-read-start rem d limits n before text rdr labels edges at t = record {
+pub part-read-start : {R : Type 0} (remaining : R → Option (List ℕ)) (d : ℕ) (limits : Limits) (n : ℕ) (before : Records) (text : List ℕ) (reader : Reader R) (labels : List (List ℕ)) (edges : List Edge) →
+    IsLeft remaining d text [] reader → IsThrough limits n before labels edges → IsPartRead remaining d limits n before text reader labels edges
+part-read-start remaining d limits n before text reader labels edges at t = record {
   past = [];
   at = at;
   through = subst (λ (rs : Records). IsThrough limits n rs labels edges) (sym (append-nil before)) t;
 }
 
-pub part-read-more : {R : Type 0} (rem : R → Option (List ℕ)) (d : ℕ) (limits : Limits) (n : ℕ) (before : Records) (text : List ℕ) (a b : Reader R) (labels labels' : List (List ℕ)) (edges edges' : List Edge) (f : List (List ℕ)) (part : IsPartRead rem d limits n before text a labels edges) →
-    IsLeft rem d text (part.past ++ f ∷ []) b → AddsRecord limits n f labels edges labels' edges' → IsPartRead rem d limits (n + 1) before text b labels' edges'
-part-read-more rem d limits n before text a b labels labels' edges edges' f part at adds = record {
+pub part-read-more : {R : Type 0} (remaining : R → Option (List ℕ)) (d : ℕ) (limits : Limits) (n : ℕ) (before : Records) (text : List ℕ) (a b : Reader R) (labels labels' : List (List ℕ)) (edges edges' : List Edge) (f : List (List ℕ)) (part : IsPartRead remaining d limits n before text a labels edges) →
+    IsLeft remaining d text (part.past ++ f ∷ []) b → AddsRecord limits n f labels edges labels' edges' → IsPartRead remaining d limits (n + 1) before text b labels' edges'
+part-read-more remaining d limits n before text a b labels labels' edges edges' f part at adds = record {
   past = part.past ++ f ∷ [];
   at = at;
   through = subst (λ (rs : Records). IsThrough limits (n + 1) rs labels' edges') (append_assoc before part.past (f ∷ []))
       (through-more limits n (before ++ part.past) f labels labels' edges edges' part.through adds);
 }
 
-part-read-end : {R : Type 0} (rem : R → Option (List ℕ)) (d : ℕ) (limits : Limits) (n : ℕ) (before : Records) (text : List ℕ) (a : Reader R) (labels : List (List ℕ)) (edges : List Edge) (part : IsPartRead rem d limits n before text a labels edges) →
+part-read-end : {R : Type 0} (remaining : R → Option (List ℕ)) (d : ℕ) (limits : Limits) (n : ℕ) (before : Records) (text : List ℕ) (a : Reader R) (labels : List (List ℕ)) (edges : List Edge) (part : IsPartRead remaining d limits n before text a labels edges) →
     records d text ≡ part.past → IsThrough limits n (before ++ records d text) labels edges
-part-read-end rem d limits n before text a labels edges part whole =
+part-read-end remaining d limits n before text a labels edges part whole =
     subst (λ (rs : Records). IsThrough limits n (before ++ rs) labels edges) (sym whole) part.through
 
 -- and no other was asked for
-part-read-stops : {R : Type 0} (rem : R → Option (List ℕ)) (d : ℕ) (limits : Limits) (n : ℕ) (before : Records) (text : List ℕ) (a b : Reader R) (labels : List (List ℕ)) (edges : List Edge) (part : IsPartRead rem d limits n before text a labels edges) →
-    FindsNone rem d text part.past a b → StopsAtEnd rem d text b
-part-read-stops rem d limits n before text a b labels edges part found = record {
+part-read-stops : {R : Type 0} (remaining : R → Option (List ℕ)) (d : ℕ) (limits : Limits) (n : ℕ) (before : Records) (text : List ℕ) (a b : Reader R) (labels : List (List ℕ)) (edges : List Edge) (part : IsPartRead remaining d limits n before text a labels edges) →
+    FindsNone remaining d text part.past a b → StopsAtEnd remaining d text b
+part-read-stops remaining d limits n before text a b labels edges part found = record {
   before = a;
-  at = subst (λ (past : Records). IsLeft rem d text past a) (sym found.all) part.at;
+  at = subst (λ (past : Records). IsLeft remaining d text past a) (sym found.all) part.at;
   last = found.last;
 }
 
@@ -72,9 +72,9 @@ four : (a b c d e : Records) → a ++ (((b ++ c) ++ d) ++ e) ≡ (a ++ b) ++ (c 
 four a b c d e = rw (append_assoc (b ++ c) d e, append_assoc b c (d ++ e), append_assoc a b (c ++ (d ++ e))) refl
 
 -- a record more that was refused, whatever follows
-part-read-stop : {R : Type 0} (rem : R → Option (List ℕ)) (d : ℕ) (limits : Limits) (n : ℕ) (before more : Records) (text : List ℕ) (a b : Reader R) (labels : List (List ℕ)) (edges : List Edge) (f : List (List ℕ)) (e : EdgeError) (part : IsPartRead rem d limits n before text a labels edges) →
-    IsLeft rem d text (part.past ++ f ∷ []) b → Stops limits n f labels edges e → Refuses (network_from limits (before ++ (records d text ++ more))) e
-part-read-stop rem d limits n before more text a b labels edges f e part at stops =
+part-read-stop : {R : Type 0} (remaining : R → Option (List ℕ)) (d : ℕ) (limits : Limits) (n : ℕ) (before more : Records) (text : List ℕ) (a b : Reader R) (labels : List (List ℕ)) (edges : List Edge) (f : List (List ℕ)) (e : EdgeError) (part : IsPartRead remaining d limits n before text a labels edges) →
+    IsLeft remaining d text (part.past ++ f ∷ []) b → Stops limits n f labels edges e → Refuses (network_from limits (before ++ (records d text ++ more))) e
+part-read-stop remaining d limits n before more text a b labels edges f e part at stops =
     let left = filter is_row (rows (config d) b.state [] [] at.left) in
     let whole : before ++ (records d text ++ more) ≡ (before ++ part.past) ++ f ∷ (left ++ more) =
     ap (λ (rs : Records). before ++ (rs ++ more)) at.all ∙ four before part.past (f ∷ []) left more in
@@ -82,9 +82,9 @@ part-read-stop rem d limits n before more text a b labels edges f e part at stop
     rw whole (says-refusal limits (before ++ part.past) f (left ++ more) e t.clean (rw t.count (stops.at (before ++ part.past) (left ++ more) t.count t.so)))
 
 -- and nothing was read after it
-part-read-ends : {R : Type 0} (rem : R → Option (List ℕ)) (d : ℕ) (limits : Limits) (n : ℕ) (before : Records) (text : List ℕ) (a b : Reader R) (labels : List (List ℕ)) (edges : List Edge) (f : List (List ℕ)) (e : EdgeError) (part : IsPartRead rem d limits n before text a labels edges) →
-    before ≡ [] → IsLeft rem d text (part.past ++ f ∷ []) b → Stops limits n f labels edges e → EndsAt rem d text limits b e
-part-read-ends rem d limits n before text a b labels edges f e part none at stops =
+part-read-ends : {R : Type 0} (remaining : R → Option (List ℕ)) (d : ℕ) (limits : Limits) (n : ℕ) (before : Records) (text : List ℕ) (a b : Reader R) (labels : List (List ℕ)) (edges : List Edge) (f : List (List ℕ)) (e : EdgeError) (part : IsPartRead remaining d limits n before text a labels edges) →
+    before ≡ [] → IsLeft remaining d text (part.past ++ f ∷ []) b → Stops limits n f labels edges e → EndsAt remaining d text limits b e
+part-read-ends remaining d limits n before text a b labels edges f e part none at stops =
     let t : IsThrough limits n part.past labels edges = subst (λ (rs : Records). IsThrough limits n (rs ++ part.past) labels edges) none part.through in
     record {
       before = part.past;
@@ -94,12 +94,12 @@ part-read-ends rem d limits n before text a b labels edges f e part none at stop
       fault = rw t.count (stops.at part.past [] t.count t.so);
     }
 
--- ---- what is told of a text that is read some records at a time
+-- ---- a text that is read some records at a time
 
 -- there may be others left
-pub reads-part : {R : Type 0} (rem : R → Option (List ℕ)) (d : ℕ) (limits : Limits) (n : ℕ) (before : Records) (text : List ℕ) (a : Reader R) (labels : List (List ℕ)) (edges : List Edge) →
-    IsPartRead rem d limits n before text a labels edges → ReadsOn rem d limits before text (Ok (n, true)) a labels edges
-reads-part rem d limits n before text a labels edges part = record {
+pub reads-part : {R : Type 0} (remaining : R → Option (List ℕ)) (d : ℕ) (limits : Limits) (n : ℕ) (before : Records) (text : List ℕ) (a : Reader R) (labels : List (List ℕ)) (edges : List Edge) →
+    IsPartRead remaining d limits n before text a labels edges → ReadsOn remaining d limits before text (Ok (n, true)) a labels edges
+reads-part remaining d limits n before text a labels edges part = record {
   goes = λ _. part;
   end = λ bad. absurd (let no : true ≡ false = bad in cc);
   last = λ bad. absurd (let no : true ≡ false = bad in cc);
@@ -108,31 +108,31 @@ reads-part rem d limits n before text a labels edges part = record {
 }
 
 -- all were read
-pub reads-whole : {R : Type 0} (rem : R → Option (List ℕ)) (d : ℕ) (limits : Limits) (n : ℕ) (before : Records) (text : List ℕ) (a b : Reader R) (labels : List (List ℕ)) (edges : List Edge) (part : IsPartRead rem d limits n before text a labels edges) →
-    FindsNone rem d text part.past a b → ReadsOn rem d limits before text (Ok (n, false)) b labels edges
-reads-whole rem d limits n before text a b labels edges part found = record {
+pub reads-whole : {R : Type 0} (remaining : R → Option (List ℕ)) (d : ℕ) (limits : Limits) (n : ℕ) (before : Records) (text : List ℕ) (a b : Reader R) (labels : List (List ℕ)) (edges : List Edge) (part : IsPartRead remaining d limits n before text a labels edges) →
+    FindsNone remaining d text part.past a b → ReadsOn remaining d limits before text (Ok (n, false)) b labels edges
+reads-whole remaining d limits n before text a b labels edges part found = record {
   goes = λ bad. absurd (let no : false ≡ true = bad in cc);
-  end = λ _. part-read-end rem d limits n before text a labels edges part found.all;
-  last = λ _. part-read-stops rem d limits n before text a b labels edges part found;
+  end = λ _. part-read-end remaining d limits n before text a labels edges part found.all;
+  last = λ _. part-read-stops remaining d limits n before text a b labels edges part found;
   refused = λ more. tt;
   ends = λ none. tt;
 }
 
 -- one was refused
-pub reads-refused : {R : Type 0} (rem : R → Option (List ℕ)) (d : ℕ) (limits : Limits) (n : ℕ) (before : Records) (text : List ℕ) (a b : Reader R) (labels labels' : List (List ℕ)) (edges edges' : List Edge) (f : List (List ℕ)) (e : EdgeError) (part : IsPartRead rem d limits n before text a labels edges) →
-    IsLeft rem d text (part.past ++ f ∷ []) b → Stops limits n f labels edges e → ReadsOn rem d limits before text (Err e) b labels' edges'
-reads-refused rem d limits n before text a b labels labels' edges edges' f e part at stops = record {
+pub reads-refused : {R : Type 0} (remaining : R → Option (List ℕ)) (d : ℕ) (limits : Limits) (n : ℕ) (before : Records) (text : List ℕ) (a b : Reader R) (labels labels' : List (List ℕ)) (edges edges' : List Edge) (f : List (List ℕ)) (e : EdgeError) (part : IsPartRead remaining d limits n before text a labels edges) →
+    IsLeft remaining d text (part.past ++ f ∷ []) b → Stops limits n f labels edges e → ReadsOn remaining d limits before text (Err e) b labels' edges'
+reads-refused remaining d limits n before text a b labels labels' edges edges' f e part at stops = record {
   goes = tt;
   end = tt;
   last = tt;
-  refused = λ more. part-read-stop rem d limits n before more text a b labels edges f e part at stops;
-  ends = λ none is. part-read-ends rem d limits n before text a b labels edges f e part none at stops;
+  refused = λ more. part-read-stop remaining d limits n before more text a b labels edges f e part at stops;
+  ends = λ none is. part-read-ends remaining d limits n before text a b labels edges f e part none at stops;
 }
 
 -- an error says nothing of the records
-pub reads-failed : {R : Type 0} (rem : R → Option (List ℕ)) (d : ℕ) (limits : Limits) (before : Records) (text : List ℕ) (a : Reader R) (labels : List (List ℕ)) (edges : List Edge) (e : EdgeError) →
-    ((says : Result Network Refusal) → Refuses says e) → ReadsOn rem d limits before text (Err e) a labels edges
-reads-failed rem d limits before text a labels edges e silent = record {
+pub reads-failed : {R : Type 0} (remaining : R → Option (List ℕ)) (d : ℕ) (limits : Limits) (before : Records) (text : List ℕ) (a : Reader R) (labels : List (List ℕ)) (edges : List Edge) (e : EdgeError) →
+    ((says : Result Network Refusal) → Refuses says e) → ReadsOn remaining d limits before text (Err e) a labels edges
+reads-failed remaining d limits before text a labels edges e silent = record {
   goes = tt;
   end = tt;
   last = tt;
@@ -157,18 +157,18 @@ adds-more limits n rs f a b c x y z adds one =
     }
 
 -- records that were read and added
-pub part-read-all : {R : Type 0} (rem : R → Option (List ℕ)) (d : ℕ) (limits : Limits) (n : ℕ) (before : Records) (text : List ℕ) (a b : Reader R) (labels labels' : List (List ℕ)) (edges edges' : List Edge) (rs : Records) →
-    IsPartRead rem d limits n before text a labels edges → ReadsRecords rem a b rs → AddsRecords limits n rs labels edges labels' edges' → IsPartRead rem d limits (n + length rs) before text b labels' edges'
-part-read-all rem d limits n before text a b labels labels' edges edges' rs part reads adds = record {
+pub part-read-all : {R : Type 0} (remaining : R → Option (List ℕ)) (d : ℕ) (limits : Limits) (n : ℕ) (before : Records) (text : List ℕ) (a b : Reader R) (labels labels' : List (List ℕ)) (edges edges' : List Edge) (rs : Records) →
+    IsPartRead remaining d limits n before text a labels edges → ReadsRecords remaining a b rs → AddsRecords limits n rs labels edges labels' edges' → IsPartRead remaining d limits (n + length rs) before text b labels' edges'
+part-read-all remaining d limits n before text a b labels labels' edges edges' rs part reads adds = record {
   past = part.past ++ rs;
   at = reads d text part.past part.at;
   through = subst (λ (all : Records). IsThrough limits (n + length rs) all labels' edges') (append_assoc before part.past rs) (adds.through (before ++ part.past) part.through);
 }
 
 -- one more record that was read
-pub reads-more : {R : Type 0} (rem : R → Option (List ℕ)) (a b c : Reader R) (rs : Records) (f : List (List ℕ)) → ReadsRecords rem a b rs → ReadsOne rem b c f → ReadsRecords rem a c (rs ++ f ∷ [])
-reads-more rem a b c rs f all one = λ d text past at.
-    subst (λ (ps : Records). IsLeft rem d text ps c) (append_assoc past rs (f ∷ [])) (one d text (past ++ rs) (all d text past at))
+pub reads-more : {R : Type 0} (remaining : R → Option (List ℕ)) (a b c : Reader R) (rs : Records) (f : List (List ℕ)) → ReadsRecords remaining a b rs → ReadsOne remaining b c f → ReadsRecords remaining a c (rs ++ f ∷ [])
+reads-more remaining a b c rs f all one = λ d text past at.
+    subst (λ (ps : Records). IsLeft remaining d text ps c) (append_assoc past rs (f ∷ [])) (one d text (past ++ rs) (all d text past at))
 
 -- ---- lines of more than one piece
 

@@ -81,7 +81,7 @@ pub on-plain : (d : ℕ) (text : List ℕ) (done : Records) (lines : List ℕ) (
 on-plain d text done lines left end on le ends =
     plain-front (take end lines) (slice_range lines end (length lines) ++ on.rest) ends (subst IsPlain (split lines on.rest end le) on.plain)
 
--- the lines at the front go over into a piece
+-- the lines at the front become a piece
 pub on-front : (d : ℕ) (text : List ℕ) (done : Records) (lines : List ℕ) (left : Option (List ℕ)) (end : ℕ) (on : IsOn d text done lines left) →
     end ≤ length lines → EndsLine (take end lines) → IsOn d text (done ++ records d (take end lines)) (piece_of lines end (length lines)) left
 on-front d text done lines left end on le ends =
@@ -132,7 +132,7 @@ plain-cons : (y : Piece) (ys : List Piece) → has_plain_lines y → All has_pla
 plain-cons y ys one all zero d lt = one
 plain-cons y ys one all (suc k) d lt = all k d (omega (arith, lt))
 
--- all that is held goes over into a piece
+-- all that is held becomes a piece
 pub on-last : (d : ℕ) (text : List ℕ) (done : Records) (lines : List ℕ) (left : Option (List ℕ)) (on : IsOn d text done lines left) → IsAtEnd left → IsOn d text (done ++ records d lines) [] left × IsPlain lines
 on-last d text done lines left on at =
     let none = end-known left on.rest on.left_is at in
@@ -148,12 +148,12 @@ on-last d text done lines left on at =
     )
 
 -- a piece with no lines
-pub on-none : (d : ℕ) (text : List ℕ) (done : Records) (lines : List ℕ) (left : Option (List ℕ)) (piece : Piece) → has_no_lines piece → IsOn d text done lines left → IsOn d text (done ++ records_of piece) lines left
+on-none : (d : ℕ) (text : List ℕ) (done : Records) (lines : List ℕ) (left : Option (List ℕ)) (piece : Piece) → has_no_lines piece → IsOn d text done lines left → IsOn d text (done ++ records_of piece) lines left
 on-none d text done lines left piece none on =
     subst (λ (rs : Records). IsOn d text rs lines left)
     (sym (append-nil done) ∙ ap (λ (rs : Records). done ++ rs) (sym (records-of-none piece none))) on
 
-pub plain-of-none : (piece : Piece) → has_no_lines piece → has_plain_lines piece
+plain-of-none : (piece : Piece) → has_no_lines piece → has_plain_lines piece
 plain-of-none piece none = subst IsPlain (sym none) plain-none
 
 -- ---- a piece more that was filled, or not
@@ -171,7 +171,7 @@ pub begun-filled : (r : Filled) (d : ℕ) (text : List ℕ) (done : Records) (pi
 begun-filled (Ok gives) d text done piece lines left on none begun = begun-on d text (done ++ records_of piece) lines left on
 begun-filled (Err e) d text done piece lines left on none begun = begun-none d text done piece none begun
 
-pub plain-filled : (r : Filled) (piece : Piece) → OnOk r (has_plain_lines piece) → OnErr r (has_no_lines piece) → has_plain_lines piece
+plain-filled : (r : Filled) (piece : Piece) → OnOk r (has_plain_lines piece) → OnErr r (has_no_lines piece) → has_plain_lines piece
 plain-filled (Ok gives) piece plain none = plain
 plain-filled (Err e) piece plain none = plain-of-none piece none
 
@@ -195,7 +195,7 @@ on-weaker (Err e) P Q p f = tt
 
 -- ---- the last pieces, and why no more could be filled
 
--- the refusal of a record is told, then why no more could be filled, and else what was added
+-- the refusal of a record is answered, then why no more could be filled, and else what was added
 pub record IsToldLast (added result : Result ℕ EdgeError) (filled : Filled) : Type 0 where
   pub adds : IfErr added (λ e. result ≡ Err e)
   pub fills : IfOk added (λ _. IfErr filled (λ e. result ≡ Err e))
@@ -216,7 +216,7 @@ last-err (Ok n) result (Ok gives) P told p q = rw told.goes tt
 last-err (Ok n) result (Err e) P told p q = rw told.fills q
 last-err (Err e) result filled P told p q = rw told.adds p
 
--- a fault that adding never tells comes only once all was added
+-- a fault that adding never gives comes only once all was added
 pub last-added : (added result : Result ℕ EdgeError) (filled : Filled) (e : EdgeError) (P : ℕ → Type 0) (Q : Type 0) → IsToldLast added result filled → added ≢ Err e → result ≡ Err e → IfOk added P → ((n : ℕ) → P n → Q) → Q
 last-added (Ok n) result filled e P Q told never is p f = f n p
 last-added (Err x) result filled e P Q told never is p f = absurd (never (sym told.adds ∙ is))

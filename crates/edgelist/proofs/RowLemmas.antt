@@ -16,21 +16,21 @@ use Rattle.edgelist.proofs.PieceLemmas.{adds-more, reads-more, part-read-all}
 abbrev Fields : Type 0
 Fields = List (List ℕ)
 
-pub one-after : {R : Type 0} (rem : R → Option (List ℕ)) (a b c : Reader R) (xs : List Fields) (i : ℕ) (x : Fields) → i < length xs →
-    ReadsRecords rem a b (take i xs) → ReadsOne rem b c x → ReadsOneAfter rem a c (take i (set xs i x)) (get_or (set xs i x) i [])
-one-after rem a b c xs i x lt reads one =
-    subst (λ (rs : List Fields). ReadsOneAfter rem a c rs (get_or (set xs i x) i [])) (sym (take-set xs i x))
-    (subst (λ (r : Fields). ReadsOneAfter rem a c (take i xs) r) (sym (get_or-set_same xs i x [] lt)) (record { middle = b; reads = reads; one = one }))
+pub one-after : {R : Type 0} (remaining : R → Option (List ℕ)) (a b c : Reader R) (xs : List Fields) (i : ℕ) (x : Fields) → i < length xs →
+    ReadsRecords remaining a b (take i xs) → ReadsOne remaining b c x → ReadsOneAfter remaining a c (take i (set xs i x)) (get_or (set xs i x) i [])
+one-after remaining a b c xs i x lt reads one =
+    subst (λ (rs : List Fields). ReadsOneAfter remaining a c rs (get_or (set xs i x) i [])) (sym (take-set xs i x))
+    (subst (λ (r : Fields). ReadsOneAfter remaining a c (take i xs) r) (sym (get_or-set_same xs i x [] lt)) (record { middle = b; reads = reads; one = one }))
 
-pub none-after : {R : Type 0} (rem : R → Option (List ℕ)) (a b c : Reader R) (xs : List Fields) (i : ℕ) (x : Fields) →
-    ReadsRecords rem a b (take i xs) → ReadsNone rem b c → ReadsNoneAfter rem a c (take i (set xs i x))
-none-after rem a b c xs i x reads none =
-    subst (λ (rs : List Fields). ReadsNoneAfter rem a c rs) (sym (take-set xs i x)) (record { middle = b; reads = reads; none = none })
+pub none-after : {R : Type 0} (remaining : R → Option (List ℕ)) (a b c : Reader R) (xs : List Fields) (i : ℕ) (x : Fields) →
+    ReadsRecords remaining a b (take i xs) → ReadsNone remaining b c → ReadsNoneAfter remaining a c (take i (set xs i x))
+none-after remaining a b c xs i x reads none =
+    subst (λ (rs : List Fields). ReadsNoneAfter remaining a c rs) (sym (take-set xs i x)) (record { middle = b; reads = reads; none = none })
 
-pub all-more : {R : Type 0} (rem : R → Option (List ℕ)) (a b c : Reader R) (xs : List Fields) (i : ℕ) (x : Fields) → i < length xs →
-    ReadsRecords rem a b (take i xs) → ReadsOne rem b c x → ReadsRecords rem a c (take (i + 1) (set xs i x))
-all-more rem a b c xs i x lt reads one =
-    subst (λ (rs : List Fields). ReadsRecords rem a c rs) (sym (take_more_set xs i x lt)) (reads-more rem a b c (take i xs) x reads one)
+pub all-more : {R : Type 0} (remaining : R → Option (List ℕ)) (a b c : Reader R) (xs : List Fields) (i : ℕ) (x : Fields) → i < length xs →
+    ReadsRecords remaining a b (take i xs) → ReadsOne remaining b c x → ReadsRecords remaining a c (take (i + 1) (set xs i x))
+all-more remaining a b c xs i x lt reads one =
+    subst (λ (rs : List Fields). ReadsRecords remaining a c rs) (sym (take_more_set xs i x lt)) (reads-more remaining a b c (take i xs) x reads one)
 
 pub form-more : (xs : List Fields) (i : ℕ) (x : Fields) → i < length xs → All HasForm (take i xs) → HasForm x → All HasForm (take (i + 1) (set xs i x))
 form-more xs i x lt all one =
@@ -52,7 +52,7 @@ pub form-at : (xs : List Fields) (i : ℕ) (row : Fields) → i < length xs → 
 form-at xs i row lt here all = subst (λ (r : Fields). HasForm r) (sym here) (All-get_or HasForm xs i row lt all)
 
 -- the first of some rows were read and added
-pub part-read-rows : {R : Type 0} (rem : R → Option (List ℕ)) (d : ℕ) (limits : Limits) (n : ℕ) (before : List Fields) (text : List ℕ) (a b : Reader R) (labels labels' : List (List ℕ)) (edges edges' : List Edge) (xs : List Fields) (k : ℕ) → k ≤ length xs →
-    IsPartRead rem d limits n before text a labels edges → ReadsRecords rem a b (take k xs) → AddsRecords limits n (take k xs) labels edges labels' edges' → IsPartRead rem d limits (n + k) before text b labels' edges'
-part-read-rows rem d limits n before text a b labels labels' edges edges' xs k le part reads adds =
-    subst (λ (m : ℕ). IsPartRead rem d limits (n + m) before text b labels' edges') (length-take-le k xs le) (part-read-all rem d limits n before text a b labels labels' edges edges' (take k xs) part reads adds)
+pub part-read-rows : {R : Type 0} (remaining : R → Option (List ℕ)) (d : ℕ) (limits : Limits) (n : ℕ) (before : List Fields) (text : List ℕ) (a b : Reader R) (labels labels' : List (List ℕ)) (edges edges' : List Edge) (xs : List Fields) (k : ℕ) → k ≤ length xs →
+    IsPartRead remaining d limits n before text a labels edges → ReadsRecords remaining a b (take k xs) → AddsRecords limits n (take k xs) labels edges labels' edges' → IsPartRead remaining d limits (n + k) before text b labels' edges'
+part-read-rows remaining d limits n before text a b labels labels' edges edges' xs k le part reads adds =
+    subst (λ (m : ℕ). IsPartRead remaining d limits (n + m) before text b labels' edges') (length-take-le k xs le) (part-read-all remaining d limits n before text a b labels labels' edges edges' (take k xs) part reads adds)

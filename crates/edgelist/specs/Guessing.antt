@@ -44,6 +44,6 @@ abbrev pub IsGuess : List (List ℕ) → LabelGuess → Type 0
 IsGuess labels entry = (label : List ℕ) → IsShort label → key_of label ≡ entry_key entry →
     StandsAt labels label entry.number
 
--- each entry tells the number of a label, or none
+-- each entry is a guess
 pub record AreGuesses (labels : List (List ℕ)) (entries : List LabelGuess) : Type 0 where
   pub each : (i : ℕ) → IsGuess labels (slice_index_or entries i blank_entry)

@@ -9,7 +9,7 @@ use Rattle.edgelist.specs.Reading.{AreWithin, EndsAt, IsClean, IsReadAs, IsRefus
 use Rattle.graph.specs.declared.edge.Edge.{Edge}
 use Rattle.edgelist.specs.declared.limits.EdgeError.{EdgeError}
 
--- so many records were read: the labels and edges are theirs, and no check fails at any of them
+-- the first records were read, `number` in all: the labels and edges are theirs, and no check fails at any of them
 pub record IsThrough (limits : Limits) (number : ℕ) (records : List (List (List ℕ)))
     (labels : List (List ℕ)) (edges : List Edge) : Type 0 where
   pub count : length records ≡ number
@@ -17,27 +17,27 @@ pub record IsThrough (limits : Limits) (number : ℕ) (records : List (List (Lis
   pub clean : IsClean limits records
 
 -- some records of a text were read after others
-pub record IsPartRead {R : Type 0} (rem : R → Option (List ℕ)) (d : ℕ) (limits : Limits) (n : ℕ)
-    (before : List (List (List ℕ))) (text : List ℕ) (rdr : Reader R) (labels : List (List ℕ))
+pub record IsPartRead {R : Type 0} (remaining : R → Option (List ℕ)) (d : ℕ) (limits : Limits) (n : ℕ)
+    (before : List (List (List ℕ))) (text : List ℕ) (reader : Reader R) (labels : List (List ℕ))
     (edges : List Edge) : Type 0 where
   pub past : List (List (List ℕ))
-  pub at : IsLeft rem d text past rdr
+  pub at : IsLeft remaining d text past reader
   pub through : IsThrough limits n (before ++ past) labels edges
 
 -- some records more of a text were read, and others may be left; or all were read, and none was asked for after the end;
 -- or one was refused, and none was asked for after that one
-pub record ReadsOn {R : Type 0} (rem : R → Option (List ℕ)) (d : ℕ) (limits : Limits)
+pub record ReadsOn {R : Type 0} (remaining : R → Option (List ℕ)) (d : ℕ) (limits : Limits)
     (before : List (List (List ℕ))) (text : List ℕ) (result : Result (ℕ × Bool) EdgeError)
-    (rdr : Reader R) (labels : List (List ℕ)) (edges : List Edge) : Type 0 where
+    (reader : Reader R) (labels : List (List ℕ)) (edges : List Edge) : Type 0 where
   pub goes : IfOk result (λ r. r.1 ≡ true →
-      IsPartRead rem d limits r.0 before text rdr labels edges)
+      IsPartRead remaining d limits r.0 before text reader labels edges)
   pub end : IfOk result (λ r. r.1 ≡ false →
       IsThrough limits r.0 (before ++ records d text) labels edges)
-  pub last : IfOk result (λ r. r.1 ≡ false → StopsAtEnd rem d text rdr)
+  pub last : IfOk result (λ r. r.1 ≡ false → StopsAtEnd remaining d text reader)
   pub refused : (more : List (List (List ℕ))) →
       IfErr result (Refuses (network_from limits (before ++ (records d text ++ more))))
   pub ends : before ≡ [] →
-      IfErr result (λ e. IsRefusal e → EndsAt rem d text limits rdr e)
+      IfErr result (λ e. IsRefusal e → EndsAt remaining d text limits reader e)
 
 -- these records more, none of which is refused, made these of those
 pub record AddsRecords (limits : Limits) (number : ℕ) (rs : List (List (List ℕ)))

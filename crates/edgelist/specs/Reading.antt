@@ -99,7 +99,7 @@ pub record IsReadAs (records : List (List (List ℕ))) (labels : List (List ℕ)
   pub below : AllBelow (length labels) edges
   pub edges_are : map (link_of labels) edges ≡ links_in records
 
--- at most so many labels and edges, and each edge of two of the labels
+-- no more labels and edges than these numbers, and each edge of two of the labels
 pub record AreWithin (vertices number : ℕ) (labels : List (List ℕ))
     (edges : List Edge) : Type 0 where
   pub below : AllBelow (length labels) edges
@@ -145,22 +145,22 @@ pub record Stops (limits : Limits) (number : ℕ) (fields : List (List ℕ)) (la
       FaultIs (fault_at limits (records ++ fields ∷ more) number) error
 
 -- the records that were read of a text end with that at which the first check fails
-pub record EndsAt {R : Type 0} (rem : R → Option (List ℕ)) (d : ℕ) (text : List ℕ)
-    (limits : Limits) (rdr : Reader R) (error : EdgeError) : Type 0 where
+pub record EndsAt {R : Type 0} (remaining : R → Option (List ℕ)) (d : ℕ) (text : List ℕ)
+    (limits : Limits) (reader : Reader R) (error : EdgeError) : Type 0 where
   pub before : List (List (List ℕ))
   pub last : List (List ℕ)
-  pub at : IsLeft rem d text (before ++ last ∷ []) rdr
+  pub at : IsLeft remaining d text (before ++ last ∷ []) reader
   pub clean : IsClean limits before
   pub fault : FaultIs (fault_at limits (before ++ last ∷ []) (length before)) error
 
 -- if a record was refused, none was read after it
 abbrev pub EndsAtFault : {R T : Type 0} → (R → Option (List ℕ)) → Reader R → Reader R → Limits →
     Result T EdgeError → Type 0
-EndsAtFault rem old new limits result = (d : ℕ) (text : List ℕ) → IsLeft rem d text [] old →
-    IfErr result (λ error. IsRefusal error → EndsAt rem d text limits new error)
+EndsAtFault remaining old new limits result = (d : ℕ) (text : List ℕ) → IsLeft remaining d text [] old →
+    IfErr result (λ error. IsRefusal error → EndsAt remaining d text limits new error)
 
 -- if all records were read, the reader is as a read leaves it that found no record more
 abbrev pub EndsAtEnd : {R T : Type 0} → (R → Option (List ℕ)) → Reader R → Reader R →
     Result T EdgeError → Type 0
-EndsAtEnd rem old new result = (d : ℕ) (text : List ℕ) → IsLeft rem d text [] old →
-    OnOk result (StopsAtEnd rem d text new)
+EndsAtEnd remaining old new result = (d : ℕ) (text : List ℕ) → IsLeft remaining d text [] old →
+    OnOk result (StopsAtEnd remaining d text new)

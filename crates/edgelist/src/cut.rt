@@ -18,8 +18,8 @@ use std::alloc::Global;
 use std::io::Read;
 use std::marker::Model;
 
-/// Where the fields of a record are among the bytes of all, and the keys of the fields. The first ends where the
-/// second begins; if there is no second, that is where the record ends.
+/// Where the fields of a record are among the bytes of all, and their keys. The first field ends
+/// where the second begins, or where the record ends if it has one field.
 #[derive(Clone, Copy)]
 pub(crate) struct CutRecord {
     start: u32,
@@ -35,13 +35,14 @@ impl CutRecord {
         self.source
     }
 
-    /// The key of the second field, or any if there is none.
+    /// The key of the second field, or any key if there is none.
     pub(crate) fn target_key(&self) -> LabelKey {
         self.target
     }
 }
 
-/// Records, each of which has the form of one: the bytes of their fields, one after another, and where each is.
+/// Records, each of which has the form of one: the bytes of their fields, one after another, and
+/// where each is.
 #[derive(Drop)]
 pub(crate) struct Cut {
     bytes: Vec<u8>,
@@ -60,7 +61,7 @@ impl Model for Cut {
     ghost invariant = { λ cut. All (IsCut cut.bytes.items) cut.records.items };
 }
 
-// The number of bytes, if it is below 2^32.
+// How many bytes there are, if fewer than 2^32.
 fn end_of(bytes: &Vec<u8>) -> Option<u32>
     ensures { IfSome result (λ end. end ≡ length bytes.now.items) }
 {
@@ -79,7 +80,7 @@ fn put(bytes: &mut Vec<u8>, field: &[u8]) -> Option<u32>
     }
 }
 
-// Puts a field that may not be there after the bytes, if there is room.
+// Puts a second field, if there is one, after the bytes, if there is room.
 fn put_second(bytes: &mut Vec<u8>, field: Option<&[u8]>) -> Option<u32>
     ensures extends { Extends bytes.old.items bytes.new.items }
     ensures items { OnSome result (
@@ -92,7 +93,8 @@ fn put_second(bytes: &mut Vec<u8>, field: Option<&[u8]>) -> Option<u32>
     }
 }
 
-// Puts the fields of a record after the bytes, if it has the form of one and there is room, and tells where they are.
+// Puts the fields of a record after the bytes, if it has the form of one and there is room, and
+// returns where they are.
 fn put_fields(bytes: &mut Vec<u8>, row: &Row) -> Option<CutRecord>
     ensures extends { Extends bytes.old.items bytes.new.items }
     ensures cut { IfSome result (IsCut bytes.new.items) }
@@ -154,7 +156,6 @@ impl Cut {
         self.bytes.clear();
     }
 
-    /// The number of records.
     pub(crate) fn len(&self) -> usize
         ensures count { result ≡ length self.now }
         ensures form { All HasForm self.now }
@@ -207,7 +208,8 @@ impl Cut {
         put_record(&mut self.bytes, &mut self.records, row)
     }
 
-    /// Puts all records that a reader has left after the others, if each has the form of one and there is room.
+    /// Puts all records that a reader has left after the others, if each has the form of one and
+    /// there is room.
     pub(crate) fn push_all<R: Read + Drop>(
         &mut self,
         reader: &mut Reader<R>,

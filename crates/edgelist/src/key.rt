@@ -4,17 +4,18 @@ ghost use Rattle.std.specs.Prelude.{◌≡◌, ◌^◌, ◌<◌, ◌≤◌, leng
 ghost use Rattle.edgelist.specs.Guessing.{IsKey, bytes_after, key_of};
 ghost use Rattle.edgelist.specs.declared.key.TheConstants.{FIRST, SHORT};
 
-// The most bytes of a label that is guessed at.
+/// The most bytes of a short label.
 pub(crate) const SHORT: usize = 11;
 
-// How many of them the first number of its key has, at most.
+// How many of a label's bytes the first number of its key has at most.
 const FIRST: usize = 8;
 
-// The last byte of the second number of a long label's key; that of a short one is at most 12.
+/// The last byte of the second number of a long label's key; that of a short one is at most 12.
 pub(crate) const LONG: u32 = 255;
 
-/// A short label as two numbers that no other short label has: its first 8 bytes, and the others with its length. Those of
-/// a long label are mixed of its bytes: no short label has them, and few others do.
+/// A label as two numbers. Those of a short label are its first 8 bytes, and the others with its
+/// length: no other label has them. Those of a long one are mixed of its bytes: no short label has
+/// them, and few long ones share them.
 #[derive(Clone, Copy, PartialEq, Eq)]
 pub(crate) struct LabelKey {
     pub(crate) low: u64,
@@ -29,8 +30,8 @@ fn four(part: &[u8]) -> u64
     u64::from(u32::from_be_bytes([part[0], part[1], part[2], part[3]]))
 }
 
-// Four to eight bytes as the digits of one number: the first four and the last four. Bytes that are among both have the
-// same place by either.
+// Four to eight bytes as the digits of one number: the first four and the last four, which may
+// overlap.
 fn four_and_more(part: &[u8]) -> u64
     requires least { 4 ≤ length part.now }
     requires most { length part.now ≤ FIRST }
@@ -42,7 +43,7 @@ fn four_and_more(part: &[u8]) -> u64
     first << (8 * more) | last
 }
 
-// Some bytes of a label as the digits of one number.
+// At most eight bytes as the digits of one number.
 fn digits(part: &[u8]) -> u64
     requires { length part.now ≤ FIRST }
     ensures value { result ≡ bytes_after 0 part.now }
@@ -69,7 +70,7 @@ fn short_key(label: &[u8]) -> LabelKey
     LabelKey { low, high }
 }
 
-// A number that another is mixed into: each bit of it depends on many of the other's.
+// A number each of whose bits depends on many of the given one's.
 fn mix(number: u64) -> u64 {
     let mixed = number.wrapping_mul(0x9e37_79b9_7f4a_7c15);
     mixed ^ (mixed >> 32)

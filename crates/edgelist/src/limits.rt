@@ -59,13 +59,14 @@ pub struct EdgeLimits {
     pub edges: u64,
 }
 
-/// The most records under any limits, 2^32 - 1.
-pub const MOST_RECORDS: u64 = 4_294_967_295;
+/// The most records under any limits: 2^32 - 1.
+pub(crate) const MOST_RECORDS: u64 = 4_294_967_295;
 
-/// The most records that the usual calls read, 2^26.
-pub const USUAL_RECORDS: u64 = 67_108_864;
+/// The most records that the usual calls read: 2^26.
+pub(crate) const USUAL_RECORDS: u64 = 67_108_864;
 
-/// What a run, a replay, a node and a gathering read at most of an edge list, if no large one is asked for.
+/// What a run, a replay, a node and a gathering read at most of an edge list, if no large one is
+/// asked for.
 pub const LIMITS: EdgeLimits = EdgeLimits {
     vertices: USUAL_VERTICES,
     edges: USUAL_RECORDS,
@@ -86,7 +87,8 @@ pub struct EdgeList {
     pub records: u64,
 }
 
-// What is answered of what was read: `Read` if a call of the reader failed, and at no other time. It takes no memory.
+// What a call answers after reading: `Read` exactly if a call of the reader failed. It takes no
+// memory.
 pub(crate) fn read_answer<T: Drop>(read: Result<T, EdgeError>, failed: bool) -> Result<T, EdgeError>
     ensures ok { IfOk result (λ what. read ≡ Ok what) }
     ensures refused { (says : Result Network Refusal) → IfErr read (Refuses says) →

@@ -21,13 +21,14 @@ use std::marker::Model;
 // The number of entries at first, of 16 bytes each.
 const FIRST_ENTRIES: usize = 131_072;
 
-// A table of so many entries is in the cache most often, and there is no need to look ahead.
+// A table of up to this many entries is mostly in the cache, so there is no need to look ahead.
 const IN_CACHE: usize = 524_288;
 
-// From so many entries on a table grows by 2 and not by 4, as one with room for many more would take much memory.
+// From this many entries on a table grows by 2 and not by 4, since its entries then take much
+// memory.
 const MANY_ENTRIES: usize = 33_554_432;
 
-// The number of entries of a group: they lie side by side, most often in one line of the cache.
+// The number of entries of a group: they lie side by side, mostly in one line of the cache.
 const GROUP: usize = 4;
 
 // A label's key, and the label's number.
@@ -47,9 +48,10 @@ const BLANK: LabelGuess = LabelGuess {
 
 /// Labels, numbered from 0 by first appearance.
 ///
-/// Beside the set of labels is a table of guesses: a label has one group of entries there, each of which holds a label's
-/// key and number. A short label that has the key of an entry is found by one access to memory in place of the set's
-/// three. A long one is held against the label with that number, and the set's way of mixing its bytes is saved.
+/// Beside the set of labels is a table of guesses: a label has one group of entries there, each of
+/// which holds a label's key and number. A short label that has the key of an entry is found by one
+/// access to memory in place of the set's three. A long one is held against the label with that
+/// number, and the set's way of mixing its bytes is saved.
 #[derive(Drop)]
 pub(crate) struct Numbering {
     labels: IndexSet<Vec<u8>, RandomState>,
@@ -79,8 +81,8 @@ impl LabelGuess {
     }
 }
 
-// The number that at most eight decimal digits say, whose bytes are those of `text`. Each two digits become one number,
-// then each four, and then all.
+// The number that at most eight decimal digits say, whose bytes are those of `text`. Each two
+// digits become one number, then each four, and then all.
 fn decimal(text: u64) -> u64 {
     let tens = (text >> 8) & 0x000f_000f_000f_000f;
     let twos = tens * 10 + (text & 0x000f_000f_000f_000f);
@@ -89,9 +91,9 @@ fn decimal(text: u64) -> u64 {
     (fours >> 32) * 10_000 + (fours & 0xffff_ffff)
 }
 
-// A number by which a key's group is chosen: any will do. Groups of labels that are numbers of at most 8 digits lie
-// near one another if the numbers do: edges often lead to labels near by. Multiples of a power of 2 are not all in one
-// group. The others are spread.
+// A number by which a key's group is chosen: any will do. Groups of labels that are numbers of at
+// most 8 digits lie near one another if the numbers do: edges often lead to labels near by.
+// Multiples of a power of 2 are not all in one group. The others are spread.
 fn spot(key: LabelKey) -> u64 {
     if key.high < 0x100 && key.low & 0x4040_4040_4040_4040 == 0 {
         let number = decimal(key.low);
@@ -150,9 +152,9 @@ fn guess_long(
     None
 }
 
-// Whether the label of a key may be new: the first entry of its group is blank. This is a guess. A label that is known
-// may be taken for new, if its entry was lost; a new one is not taken for new if another label's entry is the first of
-// its group.
+// Whether the label of a key may be new: the first entry of its group is blank. This is a guess. A
+// label that is known may be taken for new, if its entry was lost; a new one is not taken for new
+// if another label's entry is the first of its group.
 fn may_be_new(entries: &[LabelGuess], key: LabelKey) -> bool {
     let place = group(key, entries.len());
     key.high > 0 && place < entries.len() && entries[place].high == 0
@@ -167,7 +169,8 @@ fn count_new_in(entries: &[LabelGuess], row: &Row) -> usize
     usize::from(source) + usize::from(target)
 }
 
-// How many labels of these rows may be new: a guess too, in which a label that is there twice may count twice.
+// How many labels of these rows may be new: a guess too, in which a label that is there twice may
+// count twice.
 fn count_new(entries: &[LabelGuess], rows: &[Row]) -> usize {
     let mut new = 0usize;
     for row in rows {
@@ -176,7 +179,7 @@ fn count_new(entries: &[LabelGuess], rows: &[Row]) -> usize {
     new
 }
 
-// How many labels of these records may be new, as above.
+// How many labels of these cut records may be new, as above.
 fn count_new_cut(entries: &[LabelGuess], records: &[CutRecord]) -> usize {
     let mut new = 0usize;
     for record in records {
@@ -187,8 +190,7 @@ fn count_new_cut(entries: &[LabelGuess], records: &[CutRecord]) -> usize {
     new
 }
 
-// The place in a group for one more entry: the first that is blank, or else that of its first
-// entry.
+// The place in a group for one more entry: that of its first blank one, or else its first.
 fn entry_place(entries: &[LabelGuess], start: usize) -> usize {
     for i in start..entries.len().min(start.saturating_add(GROUP)) {
         if entries[i].high == 0 {
@@ -238,8 +240,8 @@ fn remember(entries: &mut [LabelGuess], key: LabelKey, number: usize)
     put(entries, entry);
 }
 
-// Puts the key of a long label and a number into an entry of its group, whatever label that is: it leads to no short
-// one.
+// Puts the key of a long label and a number into an entry of its group, whatever label that is: it
+// leads to no short one.
 fn remember_long(entries: &mut [LabelGuess], key: LabelKey, number: usize)
     ensures { (labels : List (List ℕ)) → AreGuesses labels entries.old →
         AreGuesses labels entries.new }
@@ -257,7 +259,7 @@ fn remember_long(entries: &mut [LabelGuess], key: LabelKey, number: usize)
     }
 }
 
-// How many entries a table has that takes the place of one with so many.
+// How many entries the table has that takes the place of one with `count`.
 fn larger(count: usize) -> usize {
     if count < MANY_ENTRIES {
         count.saturating_mul(4)
@@ -283,14 +285,14 @@ impl Numbering {
         Ok(Numbering { labels, entries })
     }
 
-    /// The number of labels.
     pub(crate) fn len(&self) -> usize
         ensures { result ≡ length self.now }
     {
         self.labels.len()
     }
 
-    /// The number of a label, which takes the next one if it is new. For a label that is known no memory is taken.
+    /// The number of a label, which takes the next one if it is new. For a label that is known no
+    /// memory is taken.
     pub(crate) fn number(
         &mut self,
         alloc: Global,
@@ -380,8 +382,8 @@ impl Numbering {
         }
     }
 
-    // Puts a label into the set. The table of guesses grows first if it has no room for it, and is left as it is if
-    // memory for a larger one is refused: then some guesses are lost, and the set tells those numbers.
+    // Puts a label into the set. If the table of guesses is full it grows first, unless memory is
+    // refused: then some guesses are lost, and those labels are looked up in the set.
     fn insert_new(&mut self, alloc: Global, label: &[u8]) -> Result<usize, AllocError>
         ensures found { IfOk result (StandsAt self.new label.now) }
         ensures labels { OnOk result (self.new ≡ with_label self.old label.now) }
@@ -391,8 +393,9 @@ impl Numbering {
         insert_label(alloc, &mut self.labels, label)
     }
 
-    /// Looks at the first entry for each label of these rows, and makes room for as many as have a blank one there. No
-    /// look waits for another. If memory is refused, the table is left as it is.
+    /// Looks at the first entry for each label of these rows, and makes room for as many as have a
+    /// blank one there. No look waits for another. If memory is refused, the table is left as it
+    /// is.
     pub(crate) fn look_ahead(&mut self, alloc: Global, rows: &[Row])
         ensures { self.new ≡ self.old }
     {
@@ -412,7 +415,7 @@ impl Numbering {
         }
     }
 
-    // A larger table, if there would be more labels than entries with so many new ones.
+    // Makes a larger table, if there would be more labels than entries with `new` ones more.
     fn make_room(&mut self, alloc: Global, new: usize) -> Result<(), AllocError>
         ensures { self.new ≡ self.old }
     {

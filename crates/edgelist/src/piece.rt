@@ -1,4 +1,5 @@
-//! Pieces of an edge list: some whole lines, whose records are cut into fields by whoever has time, and added in order.
+//! Pieces of an edge list: some whole lines, whose records are cut into fields by whoever has time,
+//! and added in order.
 
 ghost use Rattle.std.specs.Prelude.{◌≡◌, ◌≢◌, ◌<◌, ◌≤◌, ◌++◌, [], ℕ, List, Result, length, take, true};
 ghost use Rattle.std.specs.Prelude.{Err, IfErr, IfOk, OnErr, OnOk};
@@ -16,18 +17,19 @@ use ball_model::CountedRead;
 use graph::{Delimiter, reader_of};
 use std::alloc::{AllocError, Global};
 
-/// So many bytes the first piece of a round waits for, also if there are records to be added meanwhile.
+/// How many bytes the first piece of a round waits for, also if there are records to be added
+/// meanwhile.
 pub(crate) const LEAST: usize = 16_384;
 
-// So many are asked for by one read, at most.
+// How many bytes one read asks for at most.
 const ROOM: usize = 65_536;
 
 /// How many bytes a piece takes of a reader.
 #[derive(Clone, Copy)]
 pub(crate) struct Amount {
-    /// So many, also if the next ones may not be there yet.
+    /// At least these, also if the next ones may not be there yet.
     pub(crate) least: usize,
-    /// So many, or some more, if the reader gives them at once.
+    /// About these, if the reader gives them at once.
     pub(crate) most: usize,
 }
 
@@ -55,25 +57,25 @@ pub(crate) struct Piece {
     ghost so: { is_cut ≡ true → IsPlain lines.items → cut ≡ records (byte_of delimiter) lines.items },
 }
 
-// Puts what one read gives after the bytes that are held, and tells how much that was. `most` bytes are asked for, or as
-// many as there is room for.
+// Puts what one read gives after the bytes that are held, and returns how much that was. The read
+// asks for `most` bytes, or as many as there is room for.
 fn take_some<S: CountedRead>(
     reader: &mut S,
-    buf: &mut [u8],
+    buffer: &mut [u8],
     lines: &mut Vec<u8>,
     most: usize,
 ) -> Result<Gives, EdgeError>
-    requires { 0 < length buf.old }
+    requires { 0 < length buffer.old }
     ensures fills { OnOk result (Fills (S.remaining reader.old) (S.remaining reader.new)
         lines.old.items lines.new.items) }
     ensures end { IfOk result (λ gives. gives ≡ Gives.Nothing → IsAtEnd (S.remaining reader.new)) }
     ensures failed { IfErr result (λ e. (says : Result Network Refusal) → Refuses says e) }
 {
-    let asked = buf.len().min(most).max(1);
-    let Some(n) = reader.get(&mut buf[..asked]) else {
+    let asked = buffer.len().min(most).max(1);
+    let Some(n) = reader.get(&mut buffer[..asked]) else {
         return Err(EdgeError::Read);
     };
-    lines.extend_from_slice(&buf[..n])?;
+    lines.extend_from_slice(&buffer[..n])?;
     if n == 0 {
         return Ok(Gives::Nothing);
     }
@@ -83,22 +85,22 @@ fn take_some<S: CountedRead>(
     Ok(Gives::Much)
 }
 
-// Puts bytes after those that are held until there are as many as are wanted, or at least so many and the next ones may
-// not be there yet, or all are read.
+// Puts bytes after those that are held until there are `amount.most`, or `amount.least` and the
+// next ones may not be there yet, or all are read.
 fn fill<S: CountedRead>(
     reader: &mut S,
-    buf: &mut [u8],
+    buffer: &mut [u8],
     lines: &mut Vec<u8>,
     amount: Amount,
 ) -> Result<Gives, EdgeError>
-    requires { 0 < length buf.old }
+    requires { 0 < length buffer.old }
     ensures fills { OnOk result (Fills (S.remaining reader.old) (S.remaining reader.new)
         lines.old.items lines.new.items) }
     ensures end { IfOk result (λ gives. gives ≡ Gives.Nothing → IsAtEnd (S.remaining reader.new)) }
     ensures failed { IfErr result (λ e. (says : Result Network Refusal) → Refuses says e) }
 {
     for _turn in 0..u64::MAX {
-        let gives = take_some(reader, buf, lines, amount.most)?;
+        let gives = take_some(reader, buffer, lines, amount.most)?;
         let most = if gives == Gives::Much { amount.most } else { 0 };
         if gives == Gives::Nothing || lines.len() >= most.max(amount.least) {
             return Ok(gives);
@@ -122,7 +124,8 @@ fn last_end(lines: &[u8]) -> usize
     0
 }
 
-// Puts what is after a line's end, and its LF, in place of what was held, and keeps the lines before.
+// Puts what is after a line's end, and its LF, in place of what was held, and keeps the lines
+// before.
 fn hold_from(lines: &mut Vec<u8>, held: &mut Vec<u8>, end: usize) -> Result<(), AllocError>
     requires { end ≤ length lines.old.items }
     ensures front { OnOk result (lines.new.items ≡ take end lines.old.items) }
@@ -140,8 +143,8 @@ fn hold_from(lines: &mut Vec<u8>, held: &mut Vec<u8>, end: usize) -> Result<(), 
 pub(crate) struct Held {
     bytes: Vec<u8>,
     // room for what one read gives at most
-    buf: Vec<u8>,
-    ghost so: { 0 < length buf.items },
+    buffer: Vec<u8>,
+    ghost so: { 0 < length buffer.items },
 }
 
 impl Held {
@@ -150,8 +153,8 @@ impl Held {
         ensures { IfOk result (λ held. held.bytes.items ≡ []) }
     {
         let bytes = Vec::new(alloc);
-        let buf = vec![in alloc; 0u8; ROOM]?;
-        Ok(Held { bytes, buf })
+        let buffer = vec![in alloc; 0u8; ROOM]?;
+        Ok(Held { bytes, buffer })
     }
 }
 
@@ -179,9 +182,7 @@ impl Piece {
         self.is_cut = false;
     }
 
-    // Takes lines that are held and so many bytes of a reader in place of its own lines, or none if no line ends among
-    // these; what is after the last line's end is held then. A line that is longer than that takes more. It tells what
-    // the last call of the reader gave.
+    // What `fill` does, but that after an error it may have some lines.
     fn take_lines<S: CountedRead>(
         &mut self,
         reader: &mut S,
@@ -208,7 +209,7 @@ impl Piece {
             least: amount.least.max(held.bytes.len().saturating_mul(2)),
             most: amount.most,
         };
-        let gives = fill(reader, &mut held.buf, &mut self.lines, wanted)?;
+        let gives = fill(reader, &mut held.buffer, &mut self.lines, wanted)?;
         if gives == Gives::Nothing {
             held.bytes.clear();
         } else {
@@ -218,9 +219,10 @@ impl Piece {
         Ok(gives)
     }
 
-    /// Takes lines that are held and so many bytes of a reader in place of its own lines, or none if no line ends among
-    /// these; what is after the last line's end is held then. A line that is longer than that takes more. It tells what
-    /// the last call of the reader gave. After an error it has no lines.
+    /// Replaces its lines by those of the bytes that are held and of `amount` more of a reader (or
+    /// none, if no line ends among these). What is after the last line's end is then held. A line
+    /// that is longer takes more. Returns what the last call of the reader gave. After an error it
+    /// has no lines.
     pub(crate) fn fill<S: CountedRead>(
         &mut self,
         reader: &mut S,
@@ -249,7 +251,8 @@ impl Piece {
         }
     }
 
-    /// Cuts the records of its lines into fields, if each of them has the form of one and there is memory.
+    /// Cuts the records of its lines into fields, if each of them has the form of one and there is
+    /// memory.
     pub(crate) fn cut(&mut self, alloc: Global)
         ensures { IsSameText self.old self.new }
     {
@@ -265,7 +268,8 @@ impl Piece {
         self.cut.len()
     }
 
-    // Reads its lines anew and adds their records, which follow `number` others; tells how many there are then.
+    // Reads its lines anew and adds their records, which follow `number` others; returns how many
+    // there are then.
     fn read_to(
         &self,
         alloc: Global,
@@ -298,8 +302,9 @@ impl Piece {
         reading.read_lines(alloc, &mut rows, lines, number, limits)
     }
 
-    /// Adds its records, which follow `number` others, and tells how many there are then: by their fields, if they are
-    /// cut and the limits leave room for all of them, and else by reading the lines anew.
+    /// Adds its records, which follow `number` others, and returns how many there are then. If they
+    /// are cut and the limits leave room for all, their fields are added; else the lines are read
+    /// anew.
     pub(crate) fn add_to(
         &self,
         alloc: Global,

@@ -1,7 +1,7 @@
 //! Edge lists whose bytes are given one after the other.
 //!
-//! Whoever has a reader that goes on after the edge list reads it byte by byte, and gives these bytes to an
-//! [`EdgeReader`]. It holds some lines at a time and never the whole edge list.
+//! If something follows the edge list, a caller reads byte by byte and gives the edge list's bytes
+//! to an [`EdgeReader`]. It holds some lines at a time and never the whole edge list.
 
 ghost use Rattle.std.specs.Prelude.{◌≡◌, ◌≢◌, ◌<◌, ◌≤◌, ◌++◌, ◌∷◌, [], ℕ, List, None, Some, length};
 ghost use Rattle.std.specs.Prelude.{Err, IfErr, IfOk, Ok, OnOk};
@@ -20,7 +20,7 @@ use graph::Delimiter;
 use std::alloc::Global;
 use std::hash::RandomState;
 
-// So many bytes are held before their lines are read.
+// How many bytes are held before their lines are read.
 const ENOUGH: usize = 65_536;
 
 /// Reads an edge list whose bytes are given one at a time.
@@ -30,11 +30,11 @@ pub struct EdgeReader {
     reading: Reading,
     // how many records were read
     number: u64,
-    // the room for those that are read at once
+    // room for those that are read at once
     rows: Vec<Row>,
     // the bytes that were given and not read, after an LF if others were read before
     lines: Vec<u8>,
-    // what was refused before
+    // the error of a call before
     failed: Option<EdgeError>,
     ghost vertices: { limits.vertices ≤ most_vertices },
     ghost edges: { limits.edges ≤ most_records },
@@ -46,7 +46,8 @@ pub struct EdgeReader {
         reading.labels reading.edges.items } by { Prim.hlevel props },
 }
 
-// Written out, and so one call wherever one is dropped: the checker reads a derived one again at each place.
+// Written out, and so one call wherever one is dropped: the checker reads a derived one again at
+// each place.
 impl Drop for EdgeReader {
     fn drop(self) {
         let EdgeReader {
@@ -65,7 +66,7 @@ impl EdgeReader {
     ghost use Rattle.edgelist.specs.Given.{HasFailed, IsGiven, IsGivenLarge, IsGivenUnder};
     ghost use Rattle.edgelist.specs.Pieces.{EndsLine};
 
-    /// Nothing was given yet. The only error is that memory was refused.
+    /// A reader that was given nothing yet. The only error is that memory was refused.
     pub fn new(
         alloc: Global,
         state: RandomState,
@@ -82,8 +83,8 @@ impl EdgeReader {
         EdgeReader::under(alloc, state, delimiter, limits)
     }
 
-    /// A reader of a large edge list, given nothing yet: at most 2^31 vertices and 2^32 - 1 records. The only error is that
-    /// memory was refused.
+    /// A reader of a large edge list, given nothing yet: at most 2^31 vertices and 2^32 - 1
+    /// records. The only error is that memory was refused.
     pub fn large(
         alloc: Global,
         state: RandomState,
@@ -100,7 +101,7 @@ impl EdgeReader {
         EdgeReader::under(alloc, state, delimiter, limits)
     }
 
-    // Nothing was given yet, and these limits are in force.
+    // A reader that was given nothing yet, with these limits in force.
     fn under(
         alloc: Global,
         state: RandomState,
@@ -161,7 +162,8 @@ impl EdgeReader {
 
     /// Takes the next byte of the edge list.
     ///
-    /// A refusal is that of the whole edge list, whatever follows. After an error each call answers that error.
+    /// A refusal is that of the whole edge list, whatever follows. After an error each call answers
+    /// that error.
     pub fn add(&mut self, alloc: Global, byte: u8) -> Result<(), EdgeError>
         ensures ok { (limits : Limits) (delimiter : Delimiter) (text : List ℕ) →
             IsGivenUnder limits delimiter text self.old →

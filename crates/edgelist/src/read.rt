@@ -16,19 +16,22 @@ use std::alloc::{AllocGlobal, Global};
 use std::hash::RandomState;
 use std::thread::Threads;
 
-/// Reads an edge list, and numbers its labels from 0 by first appearance, a record's first field first.
+/// Reads an edge list, and numbers its labels from 0 by first appearance, a record's first field
+/// first.
 ///
-/// Lines end in LF or CRLF, and the last may lack its end. A byte order mark at the front, empty lines and lines that
-/// begin with `#` are skipped; every other line is a record. Its fields are between the delimiters, quotes are ordinary
-/// bytes, and nothing is trimmed. Two fields are an edge from the first to the second, and one field declares a vertex.
-/// The limits in force are never above 2^24 vertices and 2^26 records.
+/// Lines end in LF or CRLF, and the last may lack its end. A byte order mark at the front, empty
+/// lines and lines that begin with `#` are skipped; every other line is a record. Its fields are
+/// between the delimiters, quotes are ordinary bytes, and nothing is trimmed. Two fields are an
+/// edge from the first to the second, and one field declares a vertex. The limits in force are
+/// never above 2^24 vertices and 2^26 records.
 ///
-/// The errors are those of the first record at which a check fails, in the order `TooManyEdges`, `Fields`,
-/// `TooManyVertices`. `Read` is answered if a call of the reader failed (while failures can be counted), and at no
-/// other time.
+/// The errors are those of the first record at which a check fails, in the order `TooManyEdges`,
+/// `Fields`, `TooManyVertices`. `Read` is answered exactly if a call of the reader failed (while
+/// failures can be counted).
 ///
-/// Its parts are made so, and no clause of this call says it: at most one record more than the limit is asked for, a
-/// label that is known takes no memory of its own, and a call of the reader that failed is not made again.
+/// Clauses of its parts, and none of this call, say that at most one record more than the limit is
+/// asked for, that a known label takes no memory of its own, and that a call of the reader that
+/// failed is not made again.
 pub fn read_edge_list<R: CountedRead>(
     alloc: Global,
     state: RandomState,
@@ -59,8 +62,8 @@ pub fn read_edge_list<R: CountedRead>(
     sequential.read(alloc, state, reader)
 }
 
-/// Reads a large edge list as [`read_edge_list`] reads others, but for the limits: those in force are never above 2^31
-/// vertices and 2^32 - 1 records.
+/// Reads as [`read_edge_list`] does, but the limits in force are never above 2^31 vertices and 2^32
+/// - 1 records.
 pub fn read_large_edge_list<R: CountedRead>(
     alloc: Global,
     state: RandomState,
@@ -91,12 +94,12 @@ pub fn read_large_edge_list<R: CountedRead>(
     sequential.read(alloc, state, reader)
 }
 
-/// Reads an edge list as [`read_large_edge_list`] does, by so many threads, or by one if they are fewer than two. One adds
-/// records, and tells the watch how many there are so far; the others cut lines into fields.
+/// Reads as [`read_large_edge_list`] does, with this number of threads (0 is as 1). One adds
+/// records, and calls the watch with their number so far; the others cut lines into fields.
 ///
-/// Several threads ask for up to two rounds of pieces, some MiB, beyond the record that is refused, and the refusal
-/// waits for them. If a call of the reader fails there, `Read` is answered; if memory is refused for a piece there, the
-/// record's refusal is. A line is held whole, a comment too.
+/// With several threads up to two rounds of pieces, some MiB, are read beyond a record that is
+/// refused. If a call of the reader fails there, the answer is `Read`; if memory is refused there,
+/// it is still the record's refusal. A line is held whole, a comment too.
 pub fn read_edge_list_by<R: AllocGlobal + Threads + Sync, W: ReadWatch, S: CountedRead>(
     rt: &R,
     watch: &W,
@@ -139,8 +142,8 @@ pub fn read_edge_list_by<R: AllocGlobal + Threads + Sync, W: ReadWatch, S: Count
     rounds.read(state, reader)
 }
 
-/// Reads an edge list as [`read_edge_list`] does, and gives its graph alone. For a library's user: the program does not
-/// call it.
+/// Reads as [`read_edge_list`] does, and returns the graph alone. For users of the library: the
+/// program does not call it.
 pub fn read_edges<R: CountedRead>(
     alloc: Global,
     state: RandomState,

@@ -32,25 +32,26 @@ use std::hash::RandomState;
 use std::io::Read;
 use std::thread::Threads;
 
-// The watch is called each time that so many records more were added.
+// The watch is called each time that this many records more were added.
 const TOLD_EACH: u64 = 1_024;
 
 /// How an edge list is read by one thread.
 #[derive(Drop)]
 pub(crate) struct Sequential<'a, W> {
-    /// It is called, as the records come, with how many were added so far.
+    /// It is called as records are added, with their number so far.
     pub(crate) watch: &'a W,
     pub(crate) delimiter: Delimiter,
     pub(crate) limits: EdgeLimits,
 }
 
-// The entries of so many records are looked at at once.
+// For how many records the entries of their labels are looked at at once.
 const AHEAD: usize = 32;
 
-// Up to so many edges a list is small.
+// The most edges of a small list.
 const FEW: usize = 1 << 18;
 
-// So many edges take 32 MiB, which the C library leaves to the kernel: their table then grows without a copy.
+// This many edges take 32 MiB. The C library asks the kernel for a block of that size, which then
+// grows without a copy.
 const MANY: usize = 1 << 22;
 
 /// Some lines of an edge list, and what is between the fields of each.
@@ -67,13 +68,13 @@ struct Field<'a> {
     key: LabelKey,
 }
 
-// The labels so far, numbered by first appearance, and the edges.
+/// The labels so far, numbered by first appearance, and the edges.
 pub(crate) struct Reading {
     labels: Numbering,
     edges: Vec<Edge>,
 }
 
-// Written out, and so one call wherever one is dropped: the checker reads a derived one again at each place.
+// Written out, since the checker reads a derived one again at each place where a value is dropped.
 impl Drop for Reading {
     fn drop(self) {
         let Reading {
@@ -83,8 +84,9 @@ impl Drop for Reading {
     }
 }
 
-// Reads records: at most `most` that have the form of one, and then one more, whatever its form. Tells how many of them
-// have it for certain, and whether one more was read. A row without that form is the last that is read.
+// Reads records: at most `most` that have the form of one, and then one more, whatever its form.
+// Returns how many of them have that form for certain, and whether one more was read. A row without
+// it is the last that is read.
 fn read_rows<R: Read + Drop>(
     reader: &mut Reader<R>,
     rows: &mut [Row],
@@ -120,13 +122,13 @@ fn push_edge(edges: &mut Vec<Edge>, target: u32, source: u32) -> Result<(), Allo
     Ok(())
 }
 
-// For how many edges there is to be room if there are so many.
+// The capacity of a table for this many edges.
 fn capacity_for(edges: usize) -> usize {
     if edges <= FEW { edges } else { edges.max(MANY) }
 }
 
 impl Reading {
-    // No labels and no edges.
+    /// No labels and no edges.
     pub(crate) fn new(alloc: Global, state: RandomState) -> Result<Reading, AllocError>
         ensures labels { IfOk result (λ r. r.labels ≡ []) }
         ensures edges { IfOk result (λ r. r.edges.items ≡ []) }
@@ -137,12 +139,12 @@ impl Reading {
         })
     }
 
-    // Where its memory is from.
+    // The allocator of its memory.
     fn alloc(&self) -> Global {
         *self.edges.allocator()
     }
 
-    // The number of a label, with which there are not more vertices than the limit.
+    // The number of a label. A label too many for the limit is refused, though it was numbered.
     fn add_label(&mut self, field: Field<'_>, vertices: u32) -> Result<usize, EdgeError>
         requires { IsKey field.label.now field.key }
         ensures labels { OnOk result (
@@ -183,7 +185,8 @@ impl Reading {
         Ok(())
     }
 
-    // Adds the labels of a record of two fields, and its edge. A source too many is refused before the target is numbered.
+    // Adds the labels of a record of two fields, and its edge. A source too many is refused before
+    // the target is numbered.
     fn add_edge(
         &mut self,
         source: Field<'_>,
@@ -209,7 +212,7 @@ impl Reading {
         Ok(())
     }
 
-    // Adds the record that follows `number` others.
+    /// Adds the record that follows `number` others.
     pub(crate) fn add(
         &mut self,
         row: &Row,
@@ -254,7 +257,8 @@ impl Reading {
 }
 
 impl Reading {
-    // Adds records that follow `number` others, each of which has the form of one; there is room for all their labels.
+    // Adds records that follow `number` others, each of which has the form of one; there is room
+    // for all their labels.
     fn add_each(&mut self, rows: &[Row], number: u64, limits: EdgeLimits) -> Result<(), EdgeError>
         requires few { limits.edges ≤ most_records }
         requires form { All HasForm rows.now }
@@ -270,7 +274,8 @@ impl Reading {
         Ok(())
     }
 
-    // Adds record i of those that were cut, which follows `number` others; there is room for it and its labels.
+    // Adds record i of those that were cut, which follows `number` others; there is room for it and
+    // its labels.
     fn add_one_cut(
         &mut self,
         cut: &Cut,
@@ -305,8 +310,8 @@ impl Reading {
         }
     }
 
-    /// Makes room for so many edges more, if there is memory. An edge for which there is none makes it when it is added.
-    /// Rooms are powers of 2.
+    /// Makes room for `count` edges more, if there is memory; else an edge makes it when it is
+    /// added. Rooms are powers of 2.
     pub(crate) fn make_room(&mut self, count: usize)
         ensures labels { self.new.labels ≡ self.old.labels }
         ensures edges { self.new.edges.items ≡ self.old.edges.items }
@@ -317,7 +322,7 @@ impl Reading {
         }
     }
 
-    // Looks at the entries of the labels of the records from i on, if i is the first of so many.
+    // Looks at the entries of the labels of the records from i on, if i is a multiple of `AHEAD`.
     fn look_ahead_from(&mut self, cut: &Cut, i: usize)
         ensures labels { self.new.labels ≡ self.old.labels }
         ensures edges { self.new.edges.items ≡ self.old.edges.items }
@@ -332,7 +337,8 @@ impl Reading {
         }
     }
 
-    /// Adds records that were cut and follow `number` others; there is room for all of them and their labels.
+    /// Adds records that were cut and follow `number` others; there is room for all of them and
+    /// their labels.
     pub(crate) fn add_cut(
         &mut self,
         cut: &Cut,
@@ -353,8 +359,8 @@ impl Reading {
         Ok(())
     }
 
-    /// Whether so many records can be added after `number` others without passing a limit, even if all their labels are
-    /// new and differ.
+    /// Whether `count` records can be added after `number` others without passing a limit, even if
+    /// all their labels are new and differ.
     pub(crate) fn has_room(&self, count: usize, number: u64, limits: EdgeLimits) -> bool
         requires number { number ≤ limits.edges }
         requires labels { length self.now.labels ≤ limits.vertices }
@@ -364,9 +370,9 @@ impl Reading {
         self.room_for(count, number, limits) >= count
     }
 
-    // `most`, if so many records of the right form can be added after `number` others without passing a limit, even if
-    // all their labels are new and differ; and else 0. Then records are read and added one at a time, so that none is
-    // asked for after the one that is refused.
+    // `most`, if that many records of the right form can be added after `number` others without
+    // passing a limit, even if all their labels are new and differ; else 0: then records are read
+    // and added one at a time, so that none is asked for after the one that is refused.
     fn room_for(&self, most: usize, number: u64, limits: EdgeLimits) -> usize
         requires number { number ≤ limits.edges }
         requires labels { length self.now.labels ≤ limits.vertices }
@@ -382,9 +388,10 @@ impl Reading {
         }
     }
 
-    // Reads and adds records that follow `number` others, as many as there are rows at most. Tells how many there are
-    // then, and whether there may be more. The entries of their labels are looked at before the first is added, so that
-    // no look waits for another. Only the last record that is read can be refused.
+    // Reads and adds records that follow `number` others, at most as many as there are rows.
+    // Returns how many there are then, and whether there may be more. The entries of their labels
+    // are looked at before the first is added, so that no look waits for another. Only the last
+    // record that is read can be refused.
     fn read_some<R: Read + Drop>(
         &mut self,
         reader: &mut Reader<R>,
@@ -421,10 +428,11 @@ impl Reading {
 }
 
 impl Reading {
-    // Adds all records that are left, which follow `number` others, some at a time, and tells how many there are then,
-    // and the watch meanwhile; at most one more than the limit is asked for. No record is asked for after the one that is
-    // refused. After the end the reader is as a read leaves it that found no record more; whether such a read was made
-    // once or twice no clause tells (csv's contract says nothing of a reader at its end).
+    /// Adds all records that are left, which follow `number` others, some at a time, and returns
+    /// how many there are then; the watch is called meanwhile. At most one more than the limit is
+    /// asked for, and none after one that is refused. After the end the reader is as left by a read
+    /// that found no record more; no clause says whether such a read was made once or twice (csv's
+    /// contract says nothing of a reader at its end).
     pub(crate) fn read_more<R: Read + Drop, W: ReadWatch>(
         &mut self,
         reader: &mut Reader<R>,
@@ -471,7 +479,7 @@ impl Reading {
         Err(EdgeError::TooManyEdges)
     }
 
-    // The graph that was read. The set of labels is gone before the lists are made.
+    // The graph that was read. The set of labels is dropped before the lists are made.
     fn into_graph(self, alloc: Global) -> Result<Graph, AllocError>
         requires within { AreWithin most_vertices most_records self.labels self.edges.items }
         ensures graph { IfOk result (λ g.
@@ -483,7 +491,7 @@ impl Reading {
         Graph::of_edges(alloc, labels, edges)
     }
 
-    // The edge list that was read, of so many records.
+    /// The edge list that was read, of `number` records.
     pub(crate) fn into_list(self, alloc: Global, number: u64) -> Result<EdgeList, EdgeError>
         requires within { AreWithin most_vertices most_records self.labels self.edges.items }
         ensures graph { IfOk result (λ list.
@@ -500,7 +508,8 @@ impl Reading {
 }
 
 impl Reading {
-    /// Adds the records of some lines, which follow `number` others, and tells how many there are then.
+    /// Adds the records of some lines, which follow `number` others, and returns how many there are
+    /// then.
     pub(crate) fn read_lines(
         &mut self,
         alloc: Global,
@@ -540,7 +549,7 @@ impl Reading {
 }
 
 impl Reading {
-    // Brings the edges into their order, by so many threads.
+    // Sorts the edges, with this number of threads.
     fn sort_by<R: Threads + Sync>(&mut self, rt: &R, threads: usize)
         ensures labels { self.new.labels ≡ self.old.labels }
         ensures edges { IsPermutation self.old.edges.items self.new.edges.items }
@@ -549,7 +558,7 @@ impl Reading {
         sort_parts(rt, &mut self.edges, threads);
     }
 
-    // The graph that `into_graph` tells, by so many threads.
+    // The graph that `into_graph` returns, with this number of threads.
     fn into_graph_by<R: AllocGlobal + Threads + Sync>(
         self,
         rt: &R,
@@ -565,7 +574,8 @@ impl Reading {
         Graph::of_edges_by(rt, rt.alloc(), labels, edges, threads)
     }
 
-    /// The edge list that was read, of so many records, whose edges so many threads sort and code.
+    /// The edge list that was read, of `number` records, whose edges `threads` threads sort and
+    /// code.
     pub(crate) fn into_list_by<R: AllocGlobal + Threads + Sync>(
         mut self,
         rt: &R,
@@ -588,7 +598,8 @@ impl Reading {
 }
 
 impl<'a, W: ReadWatch> Sequential<'a, W> {
-    /// Calls the watch if the number of records has passed a multiple of 1,024: it was `before`, and is `number` now.
+    /// Calls the watch if the number of records has passed a multiple of 1,024: it was `before`,
+    /// and is `number` now.
     pub(crate) fn tell(&self, before: u64, number: u64) {
         if number / TOLD_EACH > before / TOLD_EACH {
             self.watch.while_read(number);

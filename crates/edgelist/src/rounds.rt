@@ -1,5 +1,5 @@
-//! Edge lists that are read piece by piece: threads cut the records of some pieces into fields, while one adds those of
-//! the pieces before, in order.
+//! Edge lists that are read piece by piece: threads cut the records of some pieces into fields,
+//! while one adds those of the pieces before, in order.
 
 ghost use Rattle.std.specs.Prelude.{◌≡◌, ◌≢◌, ◌<◌, ◌≤◌, ◌++◌, ℕ, List, Result, length, slice_index_or};
 ghost use Rattle.std.specs.Prelude.{Err, IfErr, IfOk, IsOk, Ok, OnOk, false, true};
@@ -29,10 +29,11 @@ use std::{mem, thread};
 /// The bytes of a piece, at most.
 pub(crate) const PIECE: usize = 131_072;
 
-// So many pieces are cut side by side, at most.
+// How many pieces are cut side by side at most.
 const MOST_PIECES: usize = 8;
 
-// Adds the records of pieces in their order, which follow `number` others, and tells how many there are then.
+// Adds the records of pieces in their order, which follow `number` others, and returns how many
+// there are then.
 fn add_pieces(
     alloc: Global,
     reading: &mut Reading,
@@ -73,14 +74,16 @@ fn count(pieces: &[Piece]) -> usize {
     count
 }
 
-// How many bytes piece i of a round takes. The first waits for some, and the others take what is there.
+// How many bytes piece i of a round takes. The first waits for some, and the others take what is
+// there.
 fn amount_of(i: usize, size: usize) -> Amount {
     let least = if i == 0 { LEAST.min(size) } else { 0 };
     Amount { least, most: size }
 }
 
-// Fills a piece with the next lines of a reader, if its last call gave as much as was asked for, and tells what the last
-// one gave then. Else the piece has no lines, no call is made, and what was told before is told again.
+// Fills a piece with the next lines of a reader, if its last call gave as much as was asked for,
+// and returns what the last one gave then. Else the piece has no lines, no call is made, and the
+// result is that of the piece before.
 fn fill_next<S: CountedRead>(
     piece: &mut Piece,
     reader: &mut S,
@@ -119,8 +122,8 @@ fn fill_next<S: CountedRead>(
     }
 }
 
-// Fills pieces with the next lines of a reader, and tells what its last call gave. Once one gave less than was asked for,
-// or a piece could not be filled, the pieces from there on have no lines.
+// Fills pieces with the next lines of a reader, and returns what its last call gave. Once one gave
+// less than was asked for, or a piece could not be filled, the pieces from there on have no lines.
 fn fill_pieces<S: CountedRead>(
     pieces: &mut [Piece],
     reader: &mut S,
@@ -151,7 +154,7 @@ fn fill_pieces<S: CountedRead>(
     filled
 }
 
-// Whether no round follows one in which pieces were filled so.
+// Whether a round in which pieces were filled with this result is the last.
 fn is_last(filled: Result<Gives, EdgeError>) -> bool
     ensures last { result ≡ true → IfOk filled (λ gives. gives ≡ Gives.Nothing) }
     ensures goes { result ≡ false → IsOk filled }
@@ -163,7 +166,8 @@ fn is_last(filled: Result<Gives, EdgeError>) -> bool
     }
 }
 
-// What is told of the last pieces: why one of their records was not added, and else why no more could be filled.
+// The answer of the last pieces: why one of their records was not added, or else why no more could
+// be filled.
 fn told_last(
     added: Result<u64, EdgeError>,
     filled: Result<Gives, EdgeError>,
@@ -177,8 +181,8 @@ fn told_last(
     Ok(n)
 }
 
-// Adds the records of the last pieces that were filled, which follow `number` others. Only then it tells why no more could
-// be filled.
+// Adds the records of the last pieces that were filled, which follow `number` others, and only then
+// reports why no more could be filled.
 fn add_last(
     alloc: Global,
     reading: &mut Reading,
@@ -213,7 +217,8 @@ fn add_last(
     told_last(added, filled)
 }
 
-// The bytes of pieces that follow so many records: few at first, so that the pieces of a short list take little memory.
+// The bytes of a piece after `number` records: few at first, so that the pieces of a short list
+// take little memory.
 fn size_after(number: u64) -> usize {
     match number {
         0..=131_071 => 16_384,
@@ -248,7 +253,8 @@ fn pieces_for(alloc: Global, delimiter: Delimiter, count: usize) -> Result<Vec<P
 #[derive(Drop)]
 pub(crate) struct Rounds<'a, R, W> {
     pub(crate) rt: &'a R,
-    /// It is called after each round but the last with how many records were added so far, once there are some.
+    /// It is called after each round but the last with the number of records so far, once there are
+    /// some.
     pub(crate) watch: &'a W,
     pub(crate) delimiter: Delimiter,
     pub(crate) limits: EdgeLimits,
@@ -259,8 +265,9 @@ pub(crate) struct Rounds<'a, R, W> {
 }
 
 impl<'a, R: AllocGlobal + Threads + Sync, W: ReadWatch> Rounds<'a, R, W> {
-    // Adds the records of some pieces, which follow `number` others, while those of others are cut. Room for the edges is
-    // made before the other threads take memory: a table that grows then stays where it is more often.
+    // Adds the records of some pieces, which follow `number` others, while those of others are cut.
+    // Room for the edges is made before the other threads take memory: a table that grows then
+    // stays where it is more often.
     fn add_and_cut(
         &self,
         reading: &mut Reading,
@@ -313,15 +320,16 @@ impl<'a, R: AllocGlobal + Threads + Sync, W: ReadWatch> Rounds<'a, R, W> {
 }
 
 impl<'a, R: AllocGlobal + Threads + Sync, W: ReadWatch> Rounds<'a, R, W> {
-    // Calls the watch with how many records were added, once there are some.
+    // Calls the watch with the number of records so far, if there are some.
     fn tell(&self, number: u64) {
         if number > 0 {
             self.watch.while_read(number);
         }
     }
 
-    // Fills pieces, and cuts them while the records of others are added. Tells how many records there are then, and what
-    // the last call of the reader gave, or why a piece could not be filled: those of the others come first.
+    // Fills pieces, and cuts them while the records of others are added. Returns how many records
+    // there are then, and what the last call of the reader gave, or why a piece could not be
+    // filled: a fault of the others comes first.
     fn take_turn<S: CountedRead>(
         &self,
         reading: &mut Reading,
@@ -371,8 +379,9 @@ impl<'a, R: AllocGlobal + Threads + Sync, W: ReadWatch> Rounds<'a, R, W> {
         Ok((n, filled))
     }
 
-    // The labels and edges of all records, and how many records there are. Some pieces are filled, and cut while others are
-    // added, in turn. If one cannot be filled, what refuses a record of those before is told, and else why it could not.
+    // The labels and edges of all records, and how many records there are. In turn some pieces are
+    // filled, and cut while others are added. If one cannot be filled, a refusal of a record before
+    // is reported first.
     pub(crate) fn read_rounds<S: CountedRead>(
         &self,
         state: RandomState,
@@ -415,14 +424,14 @@ impl<'a, R: AllocGlobal + Threads + Sync, W: ReadWatch> Rounds<'a, R, W> {
         Err(EdgeError::Memory)
     }
 
-    /// Reads an edge list: while one thread adds the records of some pieces, in order, the others cut those of the next
-    /// pieces into fields. It answers `Read` if a call of the reader failed (while failures can be counted), and at
-    /// no other time.
+    /// Reads an edge list: while one thread adds the records of some pieces, in order, the others
+    /// cut those of the next pieces into fields. The answer is `Read` exactly if a call of the
+    /// reader failed (while failures can be counted).
     ///
-    /// Up to two rounds of pieces are asked for beyond the record that is refused. If a read fails there, `Read` is
-    /// answered; if memory is refused there, the record's refusal is. A piece takes some 48 bytes a record beside its
-    /// bytes and those of its fields, and room to grow: 1 MiB if lines have some twelve bytes, and up to 7 MiB if they
-    /// have two.
+    /// Up to two rounds of pieces are read beyond a record that is refused. If a read fails there,
+    /// the answer is `Read`; if memory is refused there, it is the record's refusal. A piece takes
+    /// some 48 bytes a record beside its bytes and those of its fields, and room to grow: 1 MiB if
+    /// lines have some twelve bytes, and up to 7 MiB if they have two.
     pub(crate) fn read<S: CountedRead>(
         &self,
         state: RandomState,

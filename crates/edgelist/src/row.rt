@@ -15,11 +15,11 @@ use std::alloc::{AllocError, Global};
 use std::io::Read;
 use std::marker::Model;
 
-/// So many records are read before the first of them is added, at most.
+/// How many records are read at most before the first of them is added.
 pub(crate) const AT_ONCE: usize = 16;
 
-/// A record, the keys of its first two fields, and whether it has the form of one. A field that is long or not there has
-/// the key of no label.
+/// What `csv` reads as one record, the keys of its first two fields, and whether it has the form of
+/// a record of an edge list. A field that is not there has the key of no label.
 #[derive(Drop)]
 pub(crate) struct Row {
     fields: ByteRecord,
@@ -92,7 +92,7 @@ fn keys_in(row: &ByteRecord) -> (LabelKey, LabelKey, bool)
 }
 
 impl Row {
-    /// A record of no fields.
+    /// A row of no fields.
     pub(crate) fn new(alloc: Global) -> Row
         ensures { result ≡ [] }
     {
@@ -104,7 +104,7 @@ impl Row {
         }
     }
 
-    /// Reads one record more, and tells whether there was one.
+    /// Reads the next record. False: there was none.
     pub(crate) fn read<R: Read + Drop>(
         &mut self,
         reader: &mut Reader<R>,
@@ -140,14 +140,12 @@ impl Row {
         self.formed
     }
 
-    /// The key of its first field.
     pub(crate) fn source_key(&self) -> LabelKey
         ensures { HasKey self.now 0 result }
     {
         self.source
     }
 
-    /// The key of its second field.
     pub(crate) fn target_key(&self) -> LabelKey
         ensures { HasKey self.now 1 result }
     {
@@ -155,7 +153,7 @@ impl Row {
     }
 }
 
-/// Rows for so many records.
+/// Room for this many records.
 pub(crate) fn rows_for(alloc: Global, count: usize) -> Result<Vec<Row>, AllocError>
     ensures { IfOk result (λ rows. length rows.items ≡ count) }
 {

@@ -45,7 +45,7 @@ impl<'a, R: CountedRead> Read for Counted<'a, R> {
 }
 
 impl<'a, W: ReadWatch> Sequential<'a, W> {
-    // Reads all records that are left, and tells how many they were.
+    // Reads all records that are left. Its result has their number too.
     fn read_records<R: Read + Drop>(
         &self,
         alloc: Global,
@@ -73,7 +73,7 @@ impl<'a, W: ReadWatch> Sequential<'a, W> {
         read.map(|number| (reading, number))
     }
 
-    // Reads all records of a source, and tells how many they are.
+    // Reads all records of a source. Its result has their number too.
     fn read_source<R: Read + Drop>(
         &self,
         alloc: Global,
@@ -97,8 +97,8 @@ impl<'a, W: ReadWatch> Sequential<'a, W> {
         self.read_records(alloc, state, &mut reader, &mut rows)
     }
 
-    /// Reads an edge list. It answers `Read` if a call of the reader failed (while failures can be counted), and at no other
-    /// time.
+    /// Reads an edge list. The answer is `Read` exactly if a call of the reader failed (while
+    /// failures can be counted).
     pub(crate) fn read<R: CountedRead>(
         &self,
         alloc: Global,

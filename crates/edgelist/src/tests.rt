@@ -13,10 +13,11 @@ mod rounds;
 ghost use Rattle.std.specs.Prelude.{None};
 
 use crate::{
-    CountedError, Delimiter, EdgeError, EdgeLimits, EdgeList, EdgeReader, Graph, Part, Preds,
+    CountedError, Delimiter, EdgeError, EdgeLimits, EdgeList, EdgeReader, Graph, Part,
     read_edge_list, read_edges, read_large_edge_list,
 };
 use ball_model::{CountingReader, Estimate, Plan, PlanError};
+use graph::Preds;
 use sha2::{Digest, Sha256};
 use std::alloc::Global;
 use std::fmt::Display;
@@ -36,7 +37,7 @@ const TWO_EDGES: &[u8] = b"a\tb\nb\tc\n";
 /// The lines of their graph, as `shown` has them.
 const TWO_LINES: &[u8] = b"a\nb 0\nc 1\n";
 
-/// A reader that gives so many bytes at a time at most, and of which so many calls succeed.
+/// A reader that gives at most `step` bytes at a time, and of which `good` calls succeed.
 #[derive(Drop)]
 struct Stepping<'a> {
     bytes: &'a [u8],
@@ -110,7 +111,7 @@ fn shown(graph: &Graph) -> [u8; 32] {
     hasher.finalize()
 }
 
-/// A text in pieces, each repeated so many times.
+/// A text in pieces, each with how often it is repeated.
 type Pieces<'a> = &'a [(&'a [u8], usize)];
 
 /// The hash of a text.
@@ -152,7 +153,7 @@ fn are_preds(mut preds: Preds<'_>, wanted: &[u32]) -> bool {
     right && preds.next() == None
 }
 
-/// Counts just the vertices of a list, if there is one, and tells whether that was done.
+/// Counts just the vertices of a list, if there is one. False: the list was refused.
 fn count(alloc: Global, graph: &mut Graph, list: Option<&[u8]>) -> bool {
     match list {
         Some(list) => graph.count_only(alloc, Delimiter::Tab, list) == Ok(()),
@@ -160,7 +161,8 @@ fn count(alloc: Global, graph: &mut Graph, list: Option<&[u8]>) -> bool {
     }
 }
 
-/// The plan over a graph but for its digest, with log2m 4, seed 0, so many partitions and a limit of 4096.
+/// The plan over a graph but for its digest, with log2m 4, seed 0, `parts` partitions and a limit
+/// of 4096.
 fn bare_plan(
     graph: &Graph,
     parts: u16,
@@ -179,7 +181,7 @@ fn bare_plan(
     }
 }
 
-/// A part of a graph, by a plan with so many partitions.
+/// Part `p` of a graph, by a plan with `parts` partitions.
 fn part_of(alloc: Global, graph: &Graph, parts: u16, p: u16) -> Option<Part> {
     let Ok(plan) = graph.plan(4, 0, parts, 4096) else {
         return None;

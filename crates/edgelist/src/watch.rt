@@ -1,8 +1,9 @@
 //! What is called as an edge list is read.
 
-/// What a call by threads calls as it reads an edge list. Nothing is asked of it, and the call does nothing as given.
+/// What a call by threads calls as it reads an edge list. No clause says anything of it, and by
+/// default it does nothing.
 pub trait ReadWatch {
-    /// So many records of the edge list were read so far.
+    /// This many records of the edge list were read so far.
     fn while_read(&self, _records: u64) {}
 }
 

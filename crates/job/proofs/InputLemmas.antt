@@ -22,7 +22,7 @@ use Rattle.job.specs.Section.{EndsAtMark, Gives, ReadsSection, before_mark, firs
 use Rattle.job.proofs.SectionLemmas.{FrontGoesOn, Passed, passed_end, passed_more, passed_next, passed_over, passed_start, passed_whole, section_before}
 
 -- ---- the edge list
--- so many bytes were given
+-- the front of a section was given
 pub record GivesSoFar (limits : Limits) (delimiter : Delimiter) (count : ℕ) (begins : Bool) (left left' : Option (List ℕ)) (edges : EdgeReader) : Type 0 where
   pub front : List ℕ
   pub long : length front ≡ count
@@ -81,7 +81,7 @@ pub planned : (n : Numbers) (network : Network) (plan : PlanValue) → Ok plan �
 planned n network plan is = record { plan_is = plan_same (run_limits n.large).vertices (plan_over n network.graph) plan (sym is); planned = sym is }
 
 -- ---- why there is no job
--- what stands before the mark begins so, and is refused whatever follows
+-- the front of what stands before the mark is refused, whatever follows
 refused_front : (says : List ℕ → Result Network Refusal) (front : List ℕ) (c : ℕ) (x : Option (List ℕ)) (e : EdgeError) → e ≢ unread.Read → IfSome x (FrontGoesOn front c) →
     ((more : List ℕ) → IsPlain (front ++ c ∷ more) → Refuses (says (front ++ c ∷ more)) e) → IsRefused says x e
 refused_front says front c None e some goes tells = record { read = some; refuses = tt }
@@ -97,7 +97,7 @@ refused_in says limits delimiter n begins c x y z old e some so one tells =
     refused_front says so.front c x e some (passed_next so.front begins c x y z so.passed one) (λ more. tells so.front more so.given)
 
 -- the whole is refused
-pub refused_whole : (says : List ℕ → Result Network Refusal) (front : List ℕ) (x z : Option (List ℕ)) (e : EdgeError) → e ≢ unread.Read → ReadsSection front x z →
+refused_whole : (says : List ℕ → Result Network Refusal) (front : List ℕ) (x z : Option (List ℕ)) (e : EdgeError) → e ≢ unread.Read → ReadsSection front x z →
     (IsPlain front → Refuses (says front) e) → IsNoNetwork says x (nojob.Edges e)
 refused_whole says front None z e some section tells = record { read = some; refuses = tt }
 refused_whole says front (Some text) z e some section tells = record {

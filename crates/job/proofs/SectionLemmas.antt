@@ -64,12 +64,12 @@ front_past (a ∷ b ∷ d ∷ []) is =
     (subst (λ (x : ℕ). IsPast (37 ∷ x ∷ d ∷ [])) (sym second) (record { tail = refl; nothing = mark_or_not (d == 10) }))
 front_past (a ∷ b ∷ d ∷ e ∷ more) is = absurd (cc)
 
--- ---- what was read ahead tells whether a mark stands there
+-- ---- what was read ahead decides whether a mark stands there
 
 abbrev pub onto : List ℕ → Option (List ℕ) → Option (List ℕ)
 onto rest o = option_map (λ (l : List ℕ). l ++ rest) o
 
--- a byte that is no CR tells whether a line ends
+-- a byte that is no CR decides whether a line ends
 line_one : (c : ℕ) (t : Bool) → (c == 13) ≡ t → t ≡ false → (rest : List ℕ) → after_line (c ∷ rest) ≡ onto rest (after_line (c ∷ []))
 line_one c t is none [] = nil (c == 10)
   where
@@ -95,7 +95,7 @@ mark_when : (t : Bool) (o p : Option (List ℕ)) (rest : List ℕ) → (t ≡ tr
 mark_when true o p rest e = e refl
 mark_when false o p rest e = refl
 
-pub mark_then_rest : (xs rest : List ℕ) → is_front xs ≡ false → after_mark (xs ++ rest) ≡ onto rest (after_mark xs)
+mark_then_rest : (xs rest : List ℕ) → is_front xs ≡ false → after_mark (xs ++ rest) ≡ onto rest (after_mark xs)
 mark_then_rest [] rest is = absurd (cc)
 mark_then_rest (a ∷ []) [] is = refl
 mark_then_rest (a ∷ []) (b ∷ rest) is = other (a == 37) (b == 37) is
@@ -116,7 +116,7 @@ mark_then_rest (a ∷ b ∷ c ∷ []) rest is = mark_when ((a == 37) && (b == 37
 mark_then_rest (a ∷ b ∷ c ∷ d ∷ more) rest is = mark_when ((a == 37) && (b == 37)) (after_line (c ∷ d ∷ (more ++ rest))) (after_line (c ∷ d ∷ more)) rest (λ marks. line_two c d more rest)
 
 -- ---- the tail behind a byte
-pub tail_rest : (b : ℕ) (xs : List ℕ) → is_tail (b ∷ xs) ≡ true → IsAhead (b == 10) xs
+tail_rest : (b : ℕ) (xs : List ℕ) → is_tail (b ∷ xs) ≡ true → IsAhead (b == 10) xs
 unfolding is_tail
 tail_rest b [] is = record { front = λ e. refl; tail = refl }
 tail_rest b (c ∷ xs) is = record {
@@ -130,12 +130,12 @@ tail_rest b (c ∷ xs) is = record {
 
 -- ---- steps
 -- a byte within a line
-pub gives_in_line : (b : ℕ) (rest : List ℕ) → GivesOf false b (b ∷ rest) (Some rest)
+gives_in_line : (b : ℕ) (rest : List ℕ) → GivesOf false b (b ∷ rest) (Some rest)
 unfolding sections_from
 gives_in_line b rest = record { rest = rest; new_is = refl; text_is = refl; sections = refl }
 
 -- a byte where a line begins that is no mark
-pub gives_at_line : (b : ℕ) (rest : List ℕ) → after_mark (b ∷ rest) ≡ None → GivesOf true b (b ∷ rest) (Some rest)
+gives_at_line : (b : ℕ) (rest : List ℕ) → after_mark (b ∷ rest) ≡ None → GivesOf true b (b ∷ rest) (Some rest)
 unfolding sections_from
 gives_at_line b rest none = record {
   rest = rest;
@@ -160,7 +160,7 @@ unfolding is_tail
 ahead_none t xs is = subst (IsAhead t) (sym is) (record { front = λ e. refl; tail = refl })
 
 -- the first is taken
-pub popped : (xs ys : List ℕ) (r n : ℕ) → n + 1 ≡ length xs → r ≡ slice_index_or xs 0 r → ys ≡ remove xs 0 → xs ≡ r ∷ ys
+popped : (xs ys : List ℕ) (r n : ℕ) → n + 1 ≡ length xs → r ≡ slice_index_or xs 0 r → ys ≡ remove xs 0 → xs ≡ r ∷ ys
 popped [] ys r n long is rest = absurd (omega arith)
 popped (x ∷ xs) ys r n long is rest = ap (λ (h : ℕ). h ∷ xs) (sym is) ∙ ap (λ (l : List ℕ). r ∷ l) (sym rest)
 
@@ -243,7 +243,7 @@ stepped_ahead begins step.End xs kind byte end = end refl
 stepped_ahead begins step.Failed xs kind byte end = absurd kind
 
 -- ---- many steps
--- some bytes of a section were passed: it goes on with what is left, where a line begins or not
+-- some bytes of a section were passed: its rest is what is left, where a line begins or not
 pub record PassedOf (front : List ℕ) (begins : Bool) (text : List ℕ) (new : Option (List ℕ)) : Type 0 where
   pub rest : List ℕ
   pub new_is : new ≡ Some rest

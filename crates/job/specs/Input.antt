@@ -37,7 +37,7 @@ pub record SaysNetwork (s : Settings) (left left' : Option (List ℕ))
   pub section : ReadsSection input left left'
   pub says : IsPlain input → network_in s input ≡ Ok network
 
--- the edge list in front of the mark has so many records
+-- the edge list in front of the mark has this number of records
 pub record HasRecords (s : Settings) (left : Option (List ℕ)) (number : ℕ) : Type 0 where
   pub input : List ℕ
   pub behind : Option (List ℕ)

@@ -21,7 +21,7 @@ numbers_asked o =
 abbrev pub settings_of : JobOptions → Settings
 settings_of o = record { numbers = numbers_asked o; delimiter = byte_of o.delimiter }
 
--- if a reader tells its bytes, and these and the list are plain, this holds of them
+-- if the reader's bytes are known, and these and the list are plain, this holds of them
 abbrev pub WherePlain : Option (List ℕ) → Option (Bor (List ℕ)) →
     (List ℕ → Option (List ℕ) → Type 0) → Type 0
 WherePlain told counted holds = IfSome told (λ input.

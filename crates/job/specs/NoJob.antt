@@ -30,7 +30,7 @@ pub record LacksMark (says : List ℕ → Result Network Refusal) (left : Option
     pub none : HasNoMark left
     pub fine : IfSome left (λ text. IsPlain text → IsOk (says text))
 
--- so it is refused, or there is no mark; of want of memory and a failed read nothing is said
+-- the edge list is refused for this, or there is no mark; of want of memory and a failed read nothing is said
 abbrev pub IsNoNetwork : (List ℕ → Result Network Refusal) → Option (List ℕ) → InputError →
     Type 0
 IsNoNetwork says left (fault.Edges e) = IsRefused says left e
@@ -46,7 +46,7 @@ pub record LacksListMark (left : Option (List ℕ)) : Type 0 where
   pub none : HasNoMark left
   pub few : IfSome left (λ text. length text ≤ MOST_BYTES)
 
--- so it is, or more bytes than a list may have are before a mark
+-- the list has no mark, or more bytes than a list may have before one
 abbrev pub IsUnlisted : Option (List ℕ) → InputError → Type 0
 IsUnlisted left fault.NoListMark = LacksListMark left
 IsUnlisted left fault.ListSize = IfSome left (λ text. MOST_BYTES < length (before_mark text))
@@ -67,7 +67,7 @@ abbrev pub IsUncounted : Settings → Option (List ℕ) → Network → InputErr
 IsUncounted s left all (fault.Counted e) = IsMiscounted s left all e
 IsUncounted s left all e = IsUnlisted left e
 
--- the edge list says a network, and the list after it is refused so
+-- the edge list says a network, and the list after it is refused for this
 pub record HasNoCount (s : Settings) (counted : Bool) (left : Option (List ℕ))
     (e : InputError) : Type 0 where
   pub asked : counted ≡ true
@@ -76,7 +76,7 @@ pub record HasNoCount (s : Settings) (counted : Bool) (left : Option (List ℕ))
   pub edges : SaysNetwork s left mid all
   pub refused : IsUncounted s mid all e
 
--- so many bytes of a list were read, and more of it are there
+-- there are more than `n` bytes of the list
 abbrev pub GoesBeyond : ℕ → Option (List ℕ) → Type 0
 GoesBeyond n left = IfSome left (λ text. n < length (before_mark text))
 

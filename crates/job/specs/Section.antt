@@ -29,7 +29,7 @@ pub record IsPast (ahead : List ℕ) : Type 0 where
   pub tail : is_tail ahead ≡ true
   pub nothing : IfSome (after_mark ahead) (λ rest. rest ≡ [])
 
--- the byte was given: it is the first of what was left, and the section goes on after it
+-- the byte was given: it is the first of what was left, and what follows it is the rest of the section
 pub record GivesOf (begins : Bool) (b : ℕ) (text : List ℕ) (new : Option (List ℕ)) : Type 0 where
   pub rest : List ℕ
   pub new_is : new ≡ Some rest

@@ -36,7 +36,8 @@ pub struct JobInput {
     pub counted: bool,
 }
 
-// Gives a reader of edges, which was given nothing yet, the bytes of a section. True: a mark ends it.
+// Gives a reader of edges, which was given nothing yet, the bytes of a section. True: a mark ends
+// it.
 fn give_section<R: CountedRead>(
     alloc: Global,
     reader: &mut R,
@@ -176,11 +177,13 @@ pub fn part_of(alloc: Global, graph: &Graph, plan: &Plan, p: u16) -> Result<Arc<
     Ok(part)
 }
 
-/// The graph and the plan of a job, read up to the mark after it, and how many records its edge list has.
+/// The graph and the plan of a job, read up to the mark after it, and how many records its edge
+/// list has.
 ///
-/// The edge list is refused as it comes. That no mark is after it is answered once all of it is read, and says a
-/// network; that none is after the list of counted vertices, whatever that says. Then the list is refused, and then the
-/// plan. Memory is taken as bytes come, and may be refused at each.
+/// The edge list is refused as it comes. That no mark is after it is answered once all of it is
+/// read, and says a network; that none is after the list of counted vertices, whatever that says.
+/// Then the list is refused, and then the plan. Memory is taken as bytes come, and may be refused
+/// at each.
 pub fn read_job<R: CountedRead>(
     alloc: Global,
     state: RandomState,

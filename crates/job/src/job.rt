@@ -44,8 +44,8 @@ pub struct JobOptions {
     pub delimiter: Delimiter,
     /// Whether up to 2^31 vertices and 2^32 - 1 records are taken, in place of 2^24 and 2^26.
     pub large: bool,
-    /// How many threads work on the job, of all nodes together, each of which has at least one; 0: as many as there are
-    /// processors. No graph, plan or report depends on it.
+    /// How many threads work on the job, of all nodes together, each of which has at least one; 0:
+    /// as many as there are processors. No graph, plan or report depends on it.
     pub threads: u16,
 }
 
@@ -81,9 +81,9 @@ impl From<CountedError> for NetworkError {
 }
 
 impl JobOptions {
-    /// A reader of the edge list that was given nothing yet; one of a large edge list only if that is asked for. The only
-    /// error is that memory was refused.
-    pub fn reader(&self, alloc: Global, state: RandomState) -> Result<EdgeReader, EdgeError>
+    /// A reader of the edge list that was given nothing yet; one of a large edge list only if that
+    /// is asked for. The only error is that memory was refused.
+    pub(crate) fn reader(&self, alloc: Global, state: RandomState) -> Result<EdgeReader, EdgeError>
         ensures ok { IfOk result (IsGivenUnder (run_limits self.now.large) self.now.delimiter []) }
         ensures memory { IfErr result (λ e. e ≡ EdgeError.Memory) }
     {
@@ -93,9 +93,9 @@ impl JobOptions {
         EdgeReader::new(alloc, state, self.delimiter, LIMITS)
     }
 
-    /// Reads the edge list, as [`read_edge_list`] does under the usual limits, or as [`read_large_edge_list`] under the
-    /// greatest if a large one is asked for.
-    pub fn read_edges<R: CountedRead>(
+    /// Reads the edge list, as [`read_edge_list`] does under the usual limits, or as
+    /// [`read_large_edge_list`] under the greatest if a large one is asked for.
+    pub(crate) fn read_edges<R: CountedRead>(
         &self,
         alloc: Global,
         state: RandomState,
@@ -118,7 +118,7 @@ impl JobOptions {
         read_edge_list(alloc, state, reader, self.delimiter, LIMITS)
     }
 
-    // What is read at most of the edge list.
+    // The limits of the edge list.
     fn limits(&self) -> EdgeLimits
         ensures { limits_of result ≡ run_limits self.now.large }
     {
@@ -128,8 +128,8 @@ impl JobOptions {
         LIMITS
     }
 
-    /// How many threads work on the job: as many as are asked for, or else one a processor, or one if that number is not
-    /// known.
+    /// How many threads work on the job: as many as are asked for, or else one a processor, or one
+    /// if that number is not known.
     pub fn threads_for<R: Threads>(&self, rt: &R) -> usize
         ensures asked { 0 < self.now.threads → result ≡ self.now.threads }
         ensures some { 0 < result }
@@ -143,13 +143,9 @@ impl JobOptions {
         }
     }
 
-    /// Reads the edge list as [`JobOptions::read_edges`] does, by as many threads as work on the job. One adds records, and
-    /// tells the watch how many there are so far; the others cut lines into fields.
-    ///
-    /// Several threads ask for up to two rounds of pieces, some MiB, beyond the record that is refused, and the refusal
-    /// waits for them. If a call of the reader fails there, `Read` is answered; if memory is refused for a piece there, the
-    /// record's refusal is. A line is held whole, a comment too.
-    pub fn read_edges_by<R: AllocGlobal + Threads + Sync, W: ReadWatch, S: CountedRead>(
+    /// Reads the edge list as [`JobOptions::read_edges`] does, by as many threads as work on the
+    /// job ([`read_edge_list_by`] says how).
+    pub(crate) fn read_edges_by<R: AllocGlobal + Threads + Sync, W: ReadWatch, S: CountedRead>(
         &self,
         rt: &R,
         watch: &W,
@@ -172,9 +168,9 @@ impl JobOptions {
         read_edge_list_by(rt, watch, state, reader, delimiter, limits, threads)
     }
 
-    /// Counts only the vertices of a list, as [`Graph::count_only`] does, if there is one. Without one the graph stays as
-    /// it is, and after an error.
-    pub fn count_listed(
+    /// Counts only the vertices of a list, as [`Graph::count_only`] does, if there is one. Without
+    /// one the graph stays as it is, and after an error.
+    pub(crate) fn count_listed(
         &self,
         alloc: Global,
         graph: &mut Graph,
@@ -195,8 +191,8 @@ impl JobOptions {
         Ok(())
     }
 
-    /// The graph that an edge list and a list of counted vertices say, and how many records the edge list has. The list is
-    /// looked at once the edge list is read.
+    /// The graph that an edge list and a list of counted vertices say, and how many records the
+    /// edge list has. The list is looked at once the edge list is read.
     pub fn read_network<R: CountedRead>(
         &self,
         alloc: Global,
@@ -227,7 +223,7 @@ impl JobOptions {
         Ok(read)
     }
 
-    /// The graph and the number of records that [`JobOptions::read_network`] tells, by as many threads as work on the job.
+    /// What [`JobOptions::read_network`] reads, by as many threads as work on the job.
     pub fn read_network_by<R: AllocGlobal + Threads + Sync, W: ReadWatch, S: CountedRead>(
         &self,
         rt: &R,
@@ -259,8 +255,8 @@ impl JobOptions {
         Ok(read)
     }
 
-    // The plan of these options over so many vertices, but with raw estimates and this digest, or their first fault. (A
-    // seed is below 2^64: `bare_plan` needs it for its clause `job`.)
+    // The plan of these options over `vertices` vertices, but with raw estimates and this digest,
+    // or their first fault. (A seed is below 2^64: `bare_plan` needs it for its clause `job`.)
     fn raw_plan(&self, vertices: u32, job: [u8; 32]) -> Result<Plan, PlanError>
         ensures value { result ≡ plan_within (run_limits self.now.large).vertices (record {
           log2m = self.now.log2m;
@@ -286,9 +282,9 @@ impl JobOptions {
         Plan::new(log2m, seed, parts, limit, vertices, job)
     }
 
-    /// The plan over a graph but for its digest, whose bytes are all 0, or the first fault of these options. It takes
-    /// no memory, and no time to speak of. [`Graph::digest`] makes the one that belongs there, and can do so while parts
-    /// are made ([`Graph::part_with`]).
+    /// The plan over a graph but for its digest, whose bytes are all 0, or the first fault of these
+    /// options. It takes no memory, and hardly any time. [`Graph::digest`] makes the one that
+    /// belongs there, and can do so while parts are made ([`Graph::part_with`]).
     pub fn bare_plan(&self, graph: &Graph) -> Result<Plan, PlanError>
         ensures ok { IfOk result (λ bare. Ok (signed graph.now.graph bare) ≡
             plan_asked (numbers_asked self.now) graph.now.graph) }
@@ -305,8 +301,8 @@ impl JobOptions {
         }
     }
 
-    /// The plan over a graph, with its job digest, or the first fault of these options. It takes no memory, and time in
-    /// proportion to the edges.
+    /// The plan over a graph, with its job digest, or the first fault of these options. It takes no
+    /// memory, and time in proportion to the edges.
     pub fn plan(&self, graph: &Graph) -> Result<Plan, PlanError>
         ensures value { result ≡ plan_asked (numbers_asked self.now) graph.now.graph }
         ensures job { IfOk result (λ plan. IsJob (job_of graph.now.graph plan)) }

@@ -1,8 +1,9 @@
 //! Jobs: one door from an input to a graph and a plan.
 //!
-//! [`JobOptions`] read a graph and make a plan as a job asks for them: [`JobOptions::read_network`] reads in one thread, and
-//! [`JobOptions::read_network_by`] by as many as work on the job, and calls a [`Watch`]. [`read_job`] reads both of an input
-//! on which something follows them: its sections end at a line of exactly `%%` each.
+//! [`JobOptions`] read a graph and make a plan as a job asks for them: [`JobOptions::read_network`]
+//! reads in one thread, and [`JobOptions::read_network_by`] by as many as work on the job, and
+//! calls a [`Watch`]. [`read_job`] reads both of an input on which something follows them: its
+//! sections end at a line of exactly `%%` each.
 //!
 //! ```text
 //! let mut reader = CountingReader::new(stdin);

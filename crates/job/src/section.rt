@@ -1,7 +1,8 @@
-//! Sections of an input on a stream: one ends at the first line of exactly `%%`, and nothing after that line is read.
+//! Sections of an input on a stream: one ends at the first line of exactly `%%`, and nothing after
+//! that line is read.
 //!
-//! [`next_step`] reads a section byte by byte, up to its mark. Bytes are taken from the reader one at a time, so what
-//! follows the mark is still there: the reader underneath is to be a buffered one.
+//! [`next_step`] reads a section byte by byte, up to its mark. Bytes are taken from the reader one
+//! at a time, so that what follows the mark is left there: the reader should be a buffered one.
 
 ghost use Rattle.std.specs.Prelude.{◌≡◌, ◌≢◌, ℕ, ◌∷◌, ◌==◌, [], true, false, option_map};
 ghost use Rattle.std.specs.Io.KnownBytes.{Consumes, IsAtEnd, Keeps, prepend_known};
@@ -47,7 +48,7 @@ pub fn next_of<R: CountedRead>(reader: &mut R) -> NextByte
     }
 }
 
-/// Where a section is read.
+/// How far a section was read.
 #[derive(Drop)]
 pub(crate) struct Cut {
     // a line begins at the next byte
@@ -109,8 +110,8 @@ fn is_front(bytes: &[u8]) -> bool
     }
 }
 
-// Reads ahead as long as what was read may be the front of a line of %%. False: a call failed. Else it is known whether
-// a mark is there, or the input has ended.
+// Reads ahead as long as what was read may be the front of a line of %%. False: a call failed. Else
+// it is known whether a mark is there, or the input has ended.
 fn look<R: CountedRead>(reader: &mut R, ahead: &mut ArrayVec<u8, 4>) -> bool
     requires { is_front ahead.old.items ≡ true }
     ensures same { Keeps (prepend_known ahead.old.items (R.remaining reader.old))

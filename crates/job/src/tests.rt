@@ -13,7 +13,7 @@ use std::hash::RandomState;
 /// Two edges, with tabs.
 const TWO_EDGES: &[u8] = b"a\tb\nb\tc\n";
 
-/// A job of usual or of large edge lists, that so many threads work on.
+/// A job of usual or of large edge lists, on which `threads` threads work.
 fn options(large: bool, threads: u16) -> JobOptions {
     JobOptions {
         log2m: 4,
@@ -27,7 +27,8 @@ fn options(large: bool, threads: u16) -> JobOptions {
     }
 }
 
-/// Whether just the vertices of these digits are counted, of ten at most, and the graph says that they are so many.
+/// Whether just the vertices of these digits are counted, of ten at most, and the graph has their
+/// number.
 fn counts(graph: &Graph, wanted: &[u8]) -> bool {
     let mut right = graph.counted_count() as usize == wanted.len();
     for v in 0..graph.vertices() {

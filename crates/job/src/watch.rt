@@ -3,17 +3,17 @@
 use ball_model::NodeId;
 use edgelist::{ReadWatch, Unwatched};
 
-/// What a command calls as it reads its edge list, and as its nodes get on. Nothing is asked of it, and each call does
-/// nothing as given.
+/// What a command calls as it reads its edge list, and as its nodes get on. No clause says anything
+/// of it, and by default each call does nothing.
 pub trait Watch: ReadWatch {
-    /// The edge list is read, of so many records and vertices.
+    /// The edge list was read: how many records it has, and how many vertices.
     fn after_read(&self, _records: u64, _vertices: u32) {}
 
     /// The node is at superstep 0.
     fn after_start(&self, _node: NodeId) {}
 
-    /// The node has gone on to the superstep, at which so many of its partition's vertices changed, and how many it has
-    /// in all.
+    /// The node has closed a superstep and is at this one: how many of its partition's vertices
+    /// changed at it, and how many there are.
     fn after_close(&self, _node: NodeId, _superstep: u32, _changed: u32, _vertices: u32) {}
 }
 

@@ -2,7 +2,8 @@
 
 use super::*;
 
-// Whether just the vertices of these digits are counted, of ten at most, and the graph says that they are so many.
+// Whether just the vertices of these digits are counted, of ten at most, and the graph has their
+// number.
 pub(super) fn counts(graph: &Graph, wanted: &[u8]) -> bool {
     let mut right = graph.counted_count() as usize == wanted.len();
     for v in 0..graph.vertices() {
@@ -11,10 +12,11 @@ pub(super) fn counts(graph: &Graph, wanted: &[u8]) -> bool {
     right
 }
 
-// A list, what is between its fields, what it is answered, and the digits of the vertices that are then counted.
+// A list, what is between its fields, what it is answered, and the digits of the vertices that are
+// then counted.
 type List<'a> = (&'a [u8], Delimiter, Result<(), CountedError>, &'a [u8]);
 
-// Whether these lists are answered so, one after another.
+// Whether these lists are answered as wanted, one after another.
 fn are_answered(alloc: Global, graph: &mut Graph, lists: &[List<'_>]) -> bool {
     let mut right = true;
     for (list, delimiter, answer, wanted) in lists {
@@ -24,7 +26,7 @@ fn are_answered(alloc: Global, graph: &mut Graph, lists: &[List<'_>]) -> bool {
     right
 }
 
-// Whether these lists are answered so on the graph of an edge list with tabs.
+// Whether they are on the graph of an edge list with tabs.
 fn answered(rt: &HostRuntime, text: &[u8], lists: &[List<'_>]) -> bool {
     match tabs(rt, text) {
         Ok(mut graph) => are_answered(rt.alloc(), &mut graph, lists),
@@ -35,9 +37,9 @@ fn answered(rt: &HostRuntime, text: &[u8], lists: &[List<'_>]) -> bool {
 use CountedError::{Fields, Unknown};
 use Delimiter::{Comma, Tab};
 
-// A refused list leaves those counted that were, which are all at first, and another list replaces one. Comments and
-// empty lines have no number. One vertex; all of them, one twice and in another order; none; both ends of lines. A byte
-// order mark at the front is skipped, and no other.
+// A refused list leaves those counted that were, which are all at first, and another list replaces
+// one. Comments and empty lines have no number. One vertex; all of them, one twice and in another
+// order; none; both ends of lines. A byte order mark at the front is skipped, and no other.
 static LISTS: [List<'static>; 18] = [
     (b"# c\nz", Tab, Err(Unknown { number: 1 }), b"012"),
     (b"a\tb", Tab, Err(Fields { number: 1 }), b"012"),
@@ -104,9 +106,10 @@ fn has_jobs(rt: &HostRuntime, case: &Jobs<'_>) -> bool {
     }
 }
 
-/// The job digests of the two edges with log2m 4, seed 0, two partitions and a limit of 4096: SHA-256, by another
-/// program, of the 47 bytes 48424a31 04 0000000000000000 0002 00001000 00000003 0000000000000002 00000000 00000001
-/// 00000001 00000002; and with corrected estimates, of those with 48424331 at the front.
+/// The job digests of the two edges with log2m 4, seed 0, two partitions and a limit of 4096:
+/// SHA-256, by another program, of the 47 bytes 48424a31 04 0000000000000000 0002 00001000 00000003
+/// 0000000000000002 00000000 00000001 00000001 00000002; and with corrected estimates, of those
+/// with 48424331 at the front.
 const TWO_EDGES_DIGESTS: [[u8; 32]; 2] = [
     [
         0xe4, 0x87, 0x78, 0x82, 0x8d, 0xfe, 0xa5, 0x0f, 0x8c, 0x6f, 0x4c, 0x3f, 0x13, 0xc9, 0x4f,
@@ -120,9 +123,9 @@ const TWO_EDGES_DIGESTS: [[u8; 32]; 2] = [
     ],
 ];
 
-/// The job digests if just the first vertex is counted: of the 55 bytes 48424a32 04 0000000000000000 0002 00001000
-/// 00000003 0000000000000002 00000000 00000001 00000001 00000002 00000001 00000000, and of those with 48424332 at the
-/// front.
+/// The job digests if just the first vertex is counted: of the 55 bytes 48424a32 04
+/// 0000000000000000 0002 00001000 00000003 0000000000000002 00000000 00000001 00000001 00000002
+/// 00000001 00000000, and of those with 48424332 at the front.
 const FIRST_DIGESTS: [[u8; 32]; 2] = [
     [
         0x4a, 0xd0, 0xa0, 0xb2, 0x4d, 0xcc, 0xb6, 0x39, 0x31, 0x4c, 0x0e, 0xca, 0x5b, 0x2c, 0xbd,

@@ -1,8 +1,10 @@
-//! Edge lists and lists of counted vertices of random bytes, and some of which a few bytes are changed.
+//! Edge lists and lists of counted vertices of random bytes, and some of which a few bytes are
+//! changed.
 
 use super::*;
 
-// The next of a row of numbers: x becomes 6364136223846793005 x + 1442695040888963407 below 2^64 (Knuth).
+// The next of a row of numbers: x becomes 6364136223846793005 x + 1442695040888963407 below 2^64
+// (Knuth).
 fn next(state: &mut u64) -> u64 {
     *state = state
         .wrapping_mul(6_364_136_223_846_793_005)
@@ -120,7 +122,8 @@ fn is_answered(alloc: Global, graph: &mut Graph, list: &[u8]) -> bool {
 // A list of counted vertices of the two edges.
 const LIST: [u8; 14] = *b"# x\r\nb\nc\n\nb\r\na";
 
-// Whether a thousand of these lists with some bytes changed are answered so, and a thousand of up to 14 random bytes.
+// Whether a thousand of these lists with some bytes changed are answered rightly, and a thousand of
+// up to 14 random bytes.
 fn are_answered(alloc: Global, graph: &mut Graph) -> bool {
     let mut state = 31;
     let mut right = true;
@@ -135,7 +138,7 @@ fn are_answered(alloc: Global, graph: &mut Graph) -> bool {
     right
 }
 
-// Whether all of these lists are answered so on the two edges.
+// Whether all of these lists are answered rightly on the two edges.
 fn are_answered_there(rt: &HostRuntime) -> bool {
     match tabs(rt, TWO_EDGES) {
         Ok(mut graph) => are_answered(rt.alloc(), &mut graph),

@@ -3,10 +3,11 @@
 use super::pieces::{Case, are_told};
 use super::*;
 
-// Rings: an edge from each label to the next and from the last to the first, and then one from each to itself. More
-// labels of one group of guesses than it has entries: each new one drives another out, and every label is looked up
-// again once it was driven out; of 6 bytes, and of 11, the most that are guessed at. In whatever groups they are, the
-// graph is the same. Labels of zeros, which differ in length alone. Labels of 11 and of 12 bytes.
+// Rings: an edge from each label to the next and from the last to the first, and then one from each
+// to itself. More labels of one group of guesses than it has entries: each new one drives another
+// out, and every label is looked up again once it was driven out; of 6 bytes, and of 11, the most
+// that are guessed at. In whatever groups they are, the graph is the same. Labels of zeros, which
+// differ in length alone. Labels of 11 and of 12 bytes.
 static RINGS: [Case<'static>; 4] = [
     (
         &[
@@ -121,7 +122,7 @@ fn edge(v: u32) -> [u8; 14] {
     [a, b, c, d, e, f, b'\t', g, h, i, j, k, l, b'\n']
 }
 
-// Adds the edges from each number below a count to the next, twice, and tells whether there was room.
+// Adds the edges from each number below `count` to the next, twice. False: there was no room.
 fn push_path(text: &mut Vec<u8>, count: u32) -> bool {
     let mut room = true;
     for _ in 0..2 {
@@ -132,7 +133,8 @@ fn push_path(text: &mut Vec<u8>, count: u32) -> bool {
     room
 }
 
-// Whether each vertex has its number as a label and the one before as its predecessor; vertex 0 has none.
+// Whether each vertex has its number as a label and the one before as its predecessor; vertex 0 has
+// none.
 fn is_path(graph: &Graph) -> bool {
     let mut right = true;
     for v in 0..graph.vertices() {
@@ -144,7 +146,7 @@ fn is_path(graph: &Graph) -> bool {
     right
 }
 
-// Whether an edge list with tabs is a path with so many edges.
+// Whether an edge list with tabs is a path with `count` edges.
 fn is_path_of(rt: &HostRuntime, text: &[u8], count: u32) -> bool {
     match &tabs(rt, text) {
         Ok(graph) => graph.edges() == u64::from(count) && is_path(graph),
@@ -152,7 +154,7 @@ fn is_path_of(rt: &HostRuntime, text: &[u8], count: u32) -> bool {
     }
 }
 
-// Whether a path with so many edges is read.
+// Whether a path with `count` edges is read.
 fn reads_path(rt: &HostRuntime, count: u32) -> bool {
     let mut text = Vec::new(rt.alloc());
     push_path(&mut text, count) && is_path_of(rt, &text, count)
@@ -160,6 +162,7 @@ fn reads_path(rt: &HostRuntime, count: u32) -> bool {
 
 #[test]
 fn many_labels(rt: HostRuntime) {
-    // More labels than the table of guesses has entries at first, so that it grows; each is then looked up again.
+    // More labels than the table of guesses has entries at first, so that it grows; each is then
+    // looked up again.
     assert!(rt; reads_path(&rt, 140_000));
 }

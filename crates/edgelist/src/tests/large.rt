@@ -36,7 +36,7 @@ fn told_of_list(list: &Result<EdgeList, EdgeError>) -> Told {
     }
 }
 
-// Whether the two edges are read so both ways.
+// Whether the two edges are read as wanted both ways.
 fn is_told(rt: &HostRuntime, case: &(u32, u64, Result<Pieces<'_>, EdgeError>)) -> bool {
     let (vertices, edges, wanted) = *case;
     let limits = EdgeLimits { vertices, edges };
@@ -53,7 +53,7 @@ static CASES: [(u32, u64, Result<Pieces<'static>, EdgeError>); 4] = [
     (3, 1, Err(EdgeError::TooManyEdges)),
 ];
 
-// Whether the two edges are read so within each of these limits.
+// Whether the two edges are read as wanted within each of these limits.
 fn are_told(rt: &HostRuntime) -> bool {
     let mut right = true;
     for case in &CASES {

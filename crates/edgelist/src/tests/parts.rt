@@ -2,8 +2,8 @@
 
 use super::*;
 
-// A number of partitions, a partition and the index of a vertex in it; the number of vertices of the part, and the
-// vertex, its predecessors, its feed mask and whether it is counted.
+// A number of partitions, a partition and the index of a vertex in it; the number of vertices of
+// the part, and the vertex, its predecessors, its feed mask and whether it is counted.
 type Row<'a> = (u16, u16, u32, u32, u32, &'a [u32], u64, bool);
 
 // Whether a part has this row.
@@ -73,8 +73,8 @@ fn have_rows(rt: &HostRuntime, case: &Rows<'_>) -> bool {
     }
 }
 
-// 0 to 1 to 2 to 3 to 4, and 2 to itself: of two partitions, the even vertices are partition 0, the odd ones
-// partition 1.
+// 0 to 1 to 2 to 3 to 4, and 2 to itself: of two partitions, the even vertices are partition 0, the
+// odd ones partition 1.
 const PATH: &[Row<'static>] = &[
     (1, 0, 2, 5, 2, &[1, 2], 0b1, true),
     (1, 0, 4, 5, 4, &[3], 0, true),
@@ -85,9 +85,9 @@ const PATH: &[Row<'static>] = &[
     (2, 1, 1, 2, 3, &[2], 0b1, true),
 ];
 
-// Vertices 0 to 9, and edges from 0 to 1, 7 and 8, from 8 to 0, and from 9 to 7. Of 8 partitions: vertices 0 and 8, then
-// 1 and 9: partition 7 is that of vertex 7, and partition 0 that of vertex 8. Of 9: vertices 0 and 9, then 8: partition
-// 8 is that of vertex 8.
+// Vertices 0 to 9, and edges from 0 to 1, 7 and 8, from 8 to 0, and from 9 to 7. Of 8 partitions:
+// vertices 0 and 8, then 1 and 9: partition 7 is that of vertex 7, and partition 0 that of vertex
+// 8. Of 9: vertices 0 and 9, then 8: partition 8 is that of vertex 8.
 const MASKS: &[Row<'static>] = &[
     (8, 0, 0, 2, 0, &[8], 0b1000_0011, true),
     (8, 0, 1, 2, 8, &[0], 0b1, true),

@@ -60,7 +60,7 @@ pub(super) fn records_given(rt: &HostRuntime, text: &[u8]) -> Result<u64, EdgeEr
     records_of(&list_given(rt, text, Delimiter::Tab, NO_LIMITS))
 }
 
-// Adds the pieces of a text, and tells whether there was room.
+// Adds the pieces of a text. False: there was no room.
 pub(super) fn push_pieces(text: &mut Vec<u8>, pieces: Pieces<'_>) -> bool {
     let mut room = true;
     for (piece, count) in pieces {
@@ -74,20 +74,20 @@ pub(super) fn push_pieces(text: &mut Vec<u8>, pieces: Pieces<'_>) -> bool {
 // An edge list with tabs, and the lines of its graph or the error.
 pub(super) type Case<'a> = (Pieces<'a>, Result<Pieces<'a>, EdgeError>);
 
-// Whether a text with tabs is read so, at once and with its bytes given one after the other.
+// Whether a text with tabs is read as wanted, at once and with its bytes given one after the other.
 fn is_told_both_ways(rt: &HostRuntime, text: &[u8], wanted: &Told) -> bool {
     given(rt, text, Delimiter::Tab, NO_LIMITS) == *wanted
         && told(rt, at_once(text), Delimiter::Tab, NO_LIMITS) == *wanted
 }
 
-// So it is with a long edge list.
+// Whether a long edge list is.
 fn is_told(rt: &HostRuntime, case: &Case<'_>) -> bool {
     let (pieces, wanted) = *case;
     let mut text = Vec::new(rt.alloc());
     push_pieces(&mut text, pieces) && is_told_both_ways(rt, &text, &told_of(wanted))
 }
 
-// So it is with all of them.
+// Whether all of them are.
 pub(super) fn are_told(rt: &HostRuntime, cases: &[Case<'_>]) -> bool {
     let mut right = true;
     for case in cases {
@@ -96,8 +96,9 @@ pub(super) fn are_told(rt: &HostRuntime, cases: &[Case<'_>]) -> bool {
     right
 }
 
-// 16,384 lines of 4 bytes are read at once, 40,000 in three times. A byte order mark is skipped at the front of a
-// text, and is part of a label in a later piece. A record is refused. Labels of 300 bytes.
+// 16,384 lines of 4 bytes are read at once, 40,000 in three times. A byte order mark is skipped at
+// the front of a text, and is part of a label in a later piece. A record is refused. Labels of 300
+// bytes.
 static LONG: [Case<'static>; 7] = [
     (
         &[(b"a\tb\n", 16_383), (b"b\tc\n# end", 1)],

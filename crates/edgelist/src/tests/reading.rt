@@ -3,11 +3,11 @@
 use super::pieces::{given, records_given, records_of};
 use super::*;
 
-/// An edge list, what is between its fields, the limits on vertices and records, and the lines of its graph or the
-/// error.
+/// An edge list, what is between its fields, the limits on vertices and records, and the lines of
+/// its graph or the error.
 pub(super) type Case<'a> = (&'a [u8], Delimiter, u32, u64, Result<&'a [u8], EdgeError>);
 
-// Whether an edge list is read so, and also with its bytes given one after the other.
+// Whether an edge list is read as wanted, at once and with its bytes given one after the other.
 fn is_told(rt: &HostRuntime, case: &Case<'_>) -> bool {
     let (text, delimiter, vertices, edges, wanted) = *case;
     let limits = EdgeLimits { vertices, edges };
@@ -30,9 +30,10 @@ fn are_told(rt: &HostRuntime) -> bool {
 
 use Delimiter::{Comma, Space, Tab};
 
-// A comment, both ends of lines, a double and a self-loop; no end of the last line, and a comment in its place; one
-// vertex, and none; other delimiters; quotes, bytes that are no text, and one space. A byte order mark in front of lines,
-// of nothing and of a comment is skipped; a second one, one in a later line and the beginning of one are labels' bytes.
+// A comment, both ends of lines, a double and a self-loop; no end of the last line, and a comment
+// in its place; one vertex, and none; other delimiters; quotes, bytes that are no text, and one
+// space. A byte order mark in front of lines, of nothing and of a comment is skipped; a second one,
+// one in a later line and the beginning of one are labels' bytes.
 pub(super) static CASES: [Case<'static>; 34] = [
     (TWO_EDGES, Tab, 9, 9, Ok(TWO_LINES)),
     (
@@ -78,8 +79,9 @@ pub(super) static CASES: [Case<'static>; 34] = [
     ),
     (b"\n\xef\xbb\xbfa\n", Tab, 9, 9, Ok(b"\xef\xbb\xbfa\n")),
     (b"\xef\xbb\ta", Tab, 9, 9, Ok(b"\xef\xbb\na 0\n")),
-    // Limits; the number of records is tested before the fields, and the fields before the number of vertices.
-    // Neither comments nor empty lines are numbered; doubles and single labels are. No field is empty.
+    // Limits; the number of records is tested before the fields, and the fields before the number
+    // of vertices. Neither comments nor empty lines are numbered; doubles and single labels are. No
+    // field is empty.
     (TWO_EDGES, Tab, 3, 2, Ok(TWO_LINES)),
     (TWO_EDGES, Tab, 2, 9, Err(EdgeError::TooManyVertices)),
     (b"a\tb\nc\td\n", Tab, 2, 9, Err(EdgeError::TooManyVertices)),
@@ -138,11 +140,11 @@ fn records_are_counted(rt: HostRuntime) {
     assert!(rt; read == Ok(4) && given == Ok(4));
 }
 
-// An edge list, how many of its bytes come at a time, the limit on records, how many calls are made of its reader, and
-// what the list is read as, if all of them succeed.
+// An edge list, how many of its bytes come at a time, the limit on records, how many calls are made
+// of its reader, and what the list is read as, if all of them succeed.
 type Calls<'a> = (&'a [u8], usize, u64, u64, Result<Pieces<'a>, EdgeError>);
 
-// What an edge list is read as, if so many calls succeed.
+// What an edge list is read as, if `good` calls succeed.
 fn told_after(rt: &HostRuntime, case: &Calls<'_>, good: u64) -> Told {
     let (bytes, step, edges, _, _) = *case;
     let limits = EdgeLimits { vertices: 9, edges };
@@ -161,8 +163,8 @@ fn fails_at_each(rt: &HostRuntime, case: &Calls<'_>) -> bool {
 // The two edges with CRLF: ten bytes, which with the end take eleven calls.
 const TEN_BYTES: &[u8] = b"a\tb\r\nb\tc\r\n";
 
-// A byte order mark that comes byte by byte is skipped. If all bytes come at once the end is asked for twice. A record
-// is refused once its LF was read, and no call follows.
+// A byte order mark that comes byte by byte is skipped. If all bytes come at once the end is asked
+// for twice. A record is refused once its LF was read, and no call follows.
 static CALLS: [Calls<'static>; 6] = [
     (TEN_BYTES, 1, 2, 11, Ok(&[(TWO_LINES, 1)])),
     (b"\xef\xbb\xbfa\tb\nb\tc\n", 1, 2, 12, Ok(&[(TWO_LINES, 1)])),
@@ -184,7 +186,7 @@ static CALLS: [Calls<'static>; 6] = [
     (b"a\tb\nc\td\ne\tf\n", 1, 1, 8, Err(EdgeError::TooManyEdges)),
 ];
 
-// Whether so it is with all of them.
+// Whether all of them fail so.
 fn all_fail_at_each(rt: &HostRuntime) -> bool {
     let mut right = true;
     for case in &CALLS {
@@ -198,7 +200,8 @@ fn failing_readers(rt: HostRuntime) {
     assert!(rt; all_fail_at_each(&rt));
 }
 
-// Forty lines of four bytes, of which the one at this place, if there is one, has an empty first field.
+// Forty lines of four bytes, of which the one at this place, if there is one, has an empty first
+// field.
 fn forty_lines(fault: usize) -> [u8; 160] {
     let mut text = [0u8; 160];
     for i in 0..160usize {
@@ -211,8 +214,8 @@ fn forty_lines(fault: usize) -> [u8; 160] {
     text
 }
 
-// Whether these lines are refused at this place, by a reader of which no call succeeds after that which gives the line
-// there.
+// Whether these lines are refused at this place, by a reader of which no call succeeds after that
+// which gives the line there.
 fn stops_there(rt: &HostRuntime, fault: usize) -> bool {
     let text = forty_lines(fault);
     let reader = Stepping {

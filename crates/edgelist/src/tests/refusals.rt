@@ -1,5 +1,5 @@
-//! Refused memory. A run of this test can refuse any one growth: then a call that is refused leaves all as it was, and
-//! is answered when it is made again.
+//! Refused memory. A run of this test can refuse any one growth: then a call that is refused leaves
+//! all as it was, and is answered when it is made again.
 
 use super::counting::counts;
 use super::parts::part_by_feeds;
@@ -46,7 +46,8 @@ fn three_answer<R: AllocGlobal + Threads + Sync>(rt: &R, state: RandomState) -> 
     are_answered(told_by_three(rt, state), told_by_three(rt, state))
 }
 
-// Whether a list of just the last vertex is answered: at once, or after a refusal that left all counted.
+// Whether a list of just the last vertex is answered: at once, or after a refusal that left all
+// counted.
 fn is_counted(alloc: Global, graph: &mut Graph) -> bool {
     let first = graph.count_only(alloc, Delimiter::Tab, b"c");
     if first == Err(CountedError::Memory) {
@@ -74,7 +75,8 @@ fn is_answered_there(rt: &HostRuntime) -> Option<bool> {
     }
 }
 
-// Whether all is answered. If memory is refused before there is a graph, all is done again, and nothing is refused.
+// Whether all is answered. If memory is refused before there is a graph, all is done again, and
+// nothing is refused.
 fn all_is_answered(rt: &HostRuntime) -> bool {
     let right = are_answered(told_there(rt), told_there(rt));
     let answered = match is_answered_there(rt) {

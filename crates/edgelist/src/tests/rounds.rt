@@ -25,8 +25,8 @@ fn told_of_list(read: Result<EdgeList, EdgeError>) -> Told {
 // How many bytes a piece takes, and how many come at a time.
 type Way = (usize, usize);
 
-// What a worked edge list is read as by four threads, in rounds of three pieces, from a reader of which so many calls
-// succeed.
+// What a worked edge list is read as by four threads, in rounds of three pieces, from a reader of
+// which `good` calls succeed.
 fn told_in<R: AllocGlobal + Threads + Sync>(
     rt: &R,
     state: RandomState,
@@ -52,7 +52,7 @@ fn told_in<R: AllocGlobal + Threads + Sync>(
     told_of_list(rounds.read(state, &mut reader))
 }
 
-// Whether it is read as it is by one thread, from a reader of which so many calls succeed.
+// Whether that is what the case wants.
 fn is_told<R: AllocGlobal + Threads + Sync>(
     rt: &R,
     state: RandomState,
@@ -71,8 +71,9 @@ fn told_of_lines(wanted: Result<&[u8], EdgeError>) -> Told {
     }
 }
 
-// A round has one piece if fewer bytes come than are asked for, and else it has three. Each line of each row begins a
-// piece in one of these ways at least: also comments, empty lines, those after CR LF and what is refused.
+// A round has one piece if fewer bytes come than are asked for, and else it has three. Each line of
+// each row begins a piece in one of these ways at least: also comments, empty lines, those after CR
+// LF and what is refused.
 static WAYS: [Way; 7] = [
     (1, usize::MAX),
     (5, 2),
@@ -93,7 +94,8 @@ const PATH_LINES: &[u8] = b"a\nb 0\nc 1\nd 2\ne 3\nf 4\ng 5\nh 6\ni 7\nj 8\nk 9\
 const TWO_FAULTS: &[u8] =
     b"a\tb\nb\tc\nc\td\nd\te\ne\tf\n\tgg\ng\th\nh\ti\n\tjj\nj\tk\nk\tl\nl\tm\n";
 
-// Lists of three pieces of sixteen bytes. All but the first list are refused at the sixth line, in the second piece.
+// Lists of three pieces of sixteen bytes. All but the first list are refused at the sixth line, in
+// the second piece.
 static LONGER: [Case<'static>; 4] = [
     (PATH, Tab, 13, 12, Ok(PATH_LINES)),
     (TWO_FAULTS, Tab, 9, 99, Err(EdgeError::Fields { number: 6 })),
@@ -101,7 +103,7 @@ static LONGER: [Case<'static>; 4] = [
     (PATH, Tab, 6, 99, Err(EdgeError::TooManyVertices)),
 ];
 
-// Whether all are read so in each way.
+// Whether all are read as wanted in each way.
 fn are_told<R: AllocGlobal + Threads + Sync>(
     rt: &R,
     state: RandomState,
@@ -128,7 +130,8 @@ fn worked_edge_lists_piece_by_piece(rt: HostRuntime) {
 // An edge list, how it is read, and how many calls are made of its reader.
 type Calls<'a> = (Case<'a>, Way, u64);
 
-// If bytes come one by one each takes a call, and the end takes one. So does each piece, if all are there.
+// If bytes come one by one each takes a call, and the end takes one. So does each piece, if all are
+// there.
 static CALLS: [Calls<'static>; 4] = [
     ((TWO_EDGES, Tab, 9, 9, Ok(TWO_LINES)), (4, 1), 9),
     ((TWO_EDGES, Tab, 9, 9, Ok(TWO_LINES)), (4, usize::MAX), 3),
@@ -140,9 +143,10 @@ static CALLS: [Calls<'static>; 4] = [
     ),
 ];
 
-// How the longer lists are read, and how many calls are made if the sixth line is refused. The pieces of the next round
-// are asked for before it is found: those of the lines 7 to 9, or one that takes three calls, or the end of the list. If
-// all lines are in one piece, the end is asked for with these.
+// How the longer lists are read, and how many calls are made if the sixth line is refused. The
+// pieces of the next round are asked for before it is found: those of the lines 7 to 9, or one that
+// takes three calls, or the end of the list. If all lines are in one piece, the end is asked for
+// with these.
 static REFUSED_AFTER: [(Way, u64); 4] = [
     ((4, usize::MAX), 9),
     ((16, 5), 10),
@@ -150,7 +154,8 @@ static REFUSED_AFTER: [(Way, u64); 4] = [
     ((99, usize::MAX), 2),
 ];
 
-// Whether a failure of each of so many calls is answered, and what the list says if only the next one would fail.
+// Whether a failure of each of `calls` calls is answered, and what the list says if only the next
+// one would fail.
 fn fails_at_each<R: AllocGlobal + Threads + Sync>(
     rt: &R,
     state: RandomState,
@@ -165,7 +170,7 @@ fn fails_at_each<R: AllocGlobal + Threads + Sync>(
     right
 }
 
-// Whether it is so for the lists that are read whole.
+// Whether the lists that are read whole do so.
 fn all_fail_at_each<R: AllocGlobal + Threads + Sync>(rt: &R, state: RandomState) -> bool {
     let mut right = true;
     for (case, way, calls) in &CALLS {
@@ -174,8 +179,8 @@ fn all_fail_at_each<R: AllocGlobal + Threads + Sync>(rt: &R, state: RandomState)
     right
 }
 
-// Whether it is so for every worked edge list that comes byte by byte: each byte takes a call, and so does the end. It is
-// asked for before a record of these short lists is refused.
+// Whether every worked edge list does that comes byte by byte: each byte takes a call, and so does
+// the end, which is asked for before a record of these short lists is refused.
 fn worked_fail_at_each<R: AllocGlobal + Threads + Sync>(rt: &R, state: RandomState) -> bool {
     let mut right = true;
     for case in &CASES {
@@ -185,7 +190,7 @@ fn worked_fail_at_each<R: AllocGlobal + Threads + Sync>(rt: &R, state: RandomSta
     right
 }
 
-// Whether it is so for the longer lists that are refused.
+// Whether the longer lists that are refused do.
 fn refused_fail_at_each<R: AllocGlobal + Threads + Sync>(rt: &R, state: RandomState) -> bool {
     let mut right = true;
     for case in &LONGER[1..] {
@@ -209,7 +214,8 @@ fn failing_readers_piece_by_piece(rt: HostRuntime) {
     assert!(rt; right);
 }
 
-// What refuses the list of two faults, read by four threads in pieces of one line, if so many calls succeed.
+// What refuses the list of two faults, read by four threads in pieces of one line, if `good` calls
+// succeed.
 fn fault_in<R: AllocGlobal + Threads + Sync>(
     rt: &R,
     state: RandomState,
@@ -234,8 +240,8 @@ fn fault_in<R: AllocGlobal + Threads + Sync>(
     }
 }
 
-// Whether the sixth line, which comes with the sixth call, is refused exactly if that one succeeds. (A call that failed is
-// answered as `Read` all the same, by whoever counts the calls.)
+// Whether the sixth line, which comes with the sixth call, is refused exactly if that one succeeds.
+// (A call that failed is answered as `Read` all the same, by whoever counts the calls.)
 fn is_refused_first<R: AllocGlobal + Threads + Sync>(rt: &R, state: RandomState) -> bool {
     let mut right = true;
     for good in 0..6 {
@@ -319,8 +325,9 @@ fn records_in_pieces<R: AllocGlobal + Threads + Sync>(
     }
 }
 
-// One thread tells the watch each time that 1,024 more are added. More threads tell it what was added before the last
-// round: nothing if there is one round, and one record if each has a round.
+// One thread calls the watch each time that 1,024 more are added. More threads call it with what
+// was added before the last round: nothing if there is one round, and one record if each has a
+// round.
 fn are_told_of<R: AllocGlobal + Threads + Sync>(rt: &R, state: RandomState) -> bool {
     records_by(rt, state, TWO_EDGES, 1) == Some((2, None))
         && many_records(rt, state) == Some((3_000, Some(2_048)))
@@ -337,7 +344,8 @@ fn records_are_told(rt: HostRuntime) {
     assert!(rt; right);
 }
 
-// How many of 10,000 records each number of threads from 1 to 4 reads. Pieces have 16 KiB, so two threads have three rounds.
+// How many of 10,000 records each number of threads from 1 to 4 reads. Pieces have 16 KiB, so two
+// threads have three rounds.
 fn are_counted<R: AllocGlobal + Threads + Sync>(rt: &R, state: RandomState) -> bool {
     let mut text = Vec::new(rt.alloc());
     let mut right = push_pieces(&mut text, &[(b"a\tb\n", 10_000)]);

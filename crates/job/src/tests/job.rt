@@ -26,15 +26,15 @@ fn has_plan(job: &JobOptions, graph: &Graph) -> bool {
     numbers == (4, 7, 2, 9) && signed && bare.job() == [0; 32]
 }
 
-// An edge list, a list of counted vertices, and how many records there are and the digits of the vertices that are
-// counted, or the error.
+// An edge list, a list of counted vertices, and how many records there are and the digits of the
+// vertices that are counted, or the error.
 type Case<'a> = (
     &'a [u8],
     Option<&'a [u8]>,
     Result<(u64, &'a [u8]), NetworkError>,
 );
 
-// Whether a network is so, and has its plan.
+// Whether a network is read as wanted, and has its plan.
 fn is_read(rt: &HostRuntime, job: &JobOptions, case: &Case<'_>) -> bool {
     let (edges, list, wanted) = *case;
     match (&network(rt, job, edges, list), wanted) {
@@ -63,7 +63,7 @@ static CASES: [Case<'static>; 5] = [
     (b"a\t\n", Some(b"z"), Err(Edges(Fields { number: 1 }))),
 ];
 
-// Whether all are so, of usual and of large edge lists.
+// Whether all are, of usual and of large edge lists.
 fn are_read(rt: &HostRuntime) -> bool {
     let mut right = true;
     for case in &CASES {

@@ -1,11 +1,11 @@
-//! Refused memory. A run of this test can refuse any one growth: then a call that is refused is answered when it is made
-//! again.
+//! Refused memory. A run of this test can refuse any one growth: then a call that is refused is
+//! answered when it is made again.
 
 use super::*;
 use std::alloc::AllocGlobal;
 use std::thread::Threads;
 
-// Whether just the last vertex of the two edges is counted, which so many threads read.
+// Whether just the last vertex of the two edges is counted, which `threads` threads read.
 fn is_counted<R: AllocGlobal + Threads + Sync>(
     rt: &R,
     state: RandomState,
