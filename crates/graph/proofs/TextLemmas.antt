@@ -6,7 +6,7 @@ use Rattle.std.proofs.lemmas.Bool.{eqb-true, eq-eqb}
 use Rattle.std.proofs.lemmas.List.{append_assoc, append-nil, drop_all, drop_more, get_or-drop, get_or-map, length-append, length-drop, length-map, length-take, map-append, take_all, take_more}
 use Rattle.ball_model.specs.Input.{is_filled}
 use Rattle.ball_model.proofs.BoolLemmas.{by_cases}
-use Rattle.graph.specs.Lines.{if_so_many, lines_after, shortened}
+use Rattle.graph.specs.Lines.{if_count_is, lines_after, shortened}
 use Rattle.graph.specs.Lists.{Ascend, lists_between}
 use Rattle.graph.proofs.CutLemmas.{ascend-push, cut-none, cut-push, starts-none}
 
@@ -186,7 +186,7 @@ start-last text starts i n s some end =
     absurd (none-some text n some (lines-cut text i s.begin _ end (omega (arith, s.reads.within, apart)) s.reads)))
 
 -- ---- whether they are the number that is asked for
-pub many-these : (o : Option (List (List ℕ))) (n : ℕ) → Some n ≡ option_map (length {A = List ℕ}) o → if_so_many n o ≡ o
+pub many-these : (o : Option (List (List ℕ))) (n : ℕ) → Some n ≡ option_map (length {A = List ℕ}) o → if_count_is n o ≡ o
 many-these None n is = refl
 many-these (Some lines) n is = let same : length lines ≡ n = cc in rw (same, eq-eqb n n refl) refl
 

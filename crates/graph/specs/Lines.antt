@@ -13,13 +13,13 @@ lines_after line (c ∷ text) =
     else lines_after (line ++ c ∷ []) text
 
 -- the lines, if this is their number
-abbrev pub if_so_many : ℕ → Option (List (List ℕ)) → Option (List (List ℕ))
-if_so_many count None = None
-if_so_many count (Some lines) = if length lines == count then Some lines else None
+abbrev pub if_count_is : ℕ → Option (List (List ℕ)) → Option (List (List ℕ))
+if_count_is count None = None
+if_count_is count (Some lines) = if length lines == count then Some lines else None
 
 -- the labels of a number of vertices, if the text has this number of lines
 abbrev pub labels_in : ℕ → List ℕ → Option (List (List ℕ))
-labels_in count text = if_so_many count (lines_after [] text)
+labels_in count text = if_count_is count (lines_after [] text)
 
 -- these labels, or a refusal if there are none; memory is refused only where there are some
 abbrev pub GivesLines : Option (List (List ℕ)) → Result (List (List ℕ)) LinesError → Type 0
