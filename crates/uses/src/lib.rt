@@ -13,4 +13,5 @@ pub mod of_job;
 pub mod of_registers;
 pub mod of_replica;
 pub mod of_report;
+pub mod of_workers;
 pub mod of_world;

@@ -1,12 +1,14 @@
 //! Graphs, the plans of jobs over them, and parts.
 
 ghost use Rattle.std.specs.Prelude.{◌≡◌, ◌<◌, IfOk};
+ghost use Rattle.std.specs.Arc.{arc_value};
 ghost use Rattle.ball_model.specs.Job.{IsJob, job_of, part_of};
 
 use ball_model::{Plan, PlanError};
 use graph::{BuildError, Graph, GraphBuilder, Part};
 use std::alloc::{AllocError, Global};
 use std::hash::RandomState;
+use std::sync::Arc;
 
 /// The graph of one edge, from `a` to `b`.
 pub fn one_edge(alloc: Global, state: RandomState) -> Result<Graph, BuildError>
@@ -31,10 +33,10 @@ pub fn corrected_job(graph: &Graph) -> Result<Plan, PlanError>
     graph.corrected_plan(8, 0, 2, 100)
 }
 
-/// What partition 0 of a job has of its graph.
-pub fn first_part(alloc: Global, graph: &Graph, plan: &Plan) -> Result<Part, AllocError>
+/// What partition 0 of a job has of its graph, to be shared by the replicas of that partition.
+pub fn first_part(alloc: Global, graph: &Graph, plan: &Plan) -> Result<Arc<Part>, AllocError>
     requires { IsJob (job_of graph.now.graph plan.now) }
-    ensures { IfOk result (λ part. part ≡ part_of (job_of graph.now.graph plan.now) 0) }
+    ensures { IfOk result (λ part. arc_value part ≡ part_of (job_of graph.now.graph plan.now) 0) }
 {
-    graph.part(alloc, plan, 0)
+    Ok(Arc::new(alloc, graph.part(alloc, plan, 0)?)?)
 }

@@ -10,6 +10,7 @@ ghost use Rattle.ball_model.specs.PlanValue.{mixing_of};
 ghost use Rattle.ball_model.specs.State.{StandsFor};
 ghost use Rattle.replica.specs.Sent.{batch_name};
 
+use crate::of_graph::first_part;
 use ball_model::{CloseError, Plan};
 use batches::Batch;
 use graph::Graph;
@@ -25,7 +26,7 @@ pub fn first_batch(alloc: Global, graph: &Graph, plan: &Plan) -> Result<Batch, A
     ensures { IfOk result (λ batch.
         batch ≡ true_batch (job_of graph.now.graph plan.now) (batch_name 0 0 1)) }
 {
-    let part = Arc::new(alloc, graph.part(alloc, plan, 0)?)?;
+    let part = first_part(alloc, graph, plan)?;
     let replica = Replica::new(alloc, part)?;
     replica.out(alloc, 1)
 }

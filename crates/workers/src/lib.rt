@@ -3,21 +3,14 @@
 //! [`run`] reads an edge list and writes its report, by [`RunOptions`]: a board for the job, and a thread for each replica
 //! of each partition. Its [`RunError`] says why there is no report.
 //!
-//! ```text
-//! let gate = SleepingGate::new(rt.alloc(), rt)?;
-//! run(rt, RandomState::new(rt)?, &mut reader, None, &mut writer, &options, &gate)?
-//! ```
+//! A proved caller: `uses::of_workers::report_of`.
 //!
 //! [`run_node`] takes one node of a partition from superstep 0 to its end, over an [`Exchange`]: a board with a seat
 //! ([`BoardExchange`]), or a board of one caller in memory ([`MemoryExchange`]). [`NodeOrders`] say how often it keeps
 //! a snapshot, how long it waits, and whether it is lost or starts anew; [`NodeEnd`] says how it ended. A [`Gate`] is
 //! called round each of its posts, and while it waits; [`run_watched`] has one that also hears how a run gets on.
 //!
-//! ```text
-//! let mut exchange = MemoryExchange::open(alloc, &graph, &plan, 64)?;
-//! let orders = NodeOrders { keep: 1, patience: 10, lose: None, restart: None };
-//! run_node(rt, &mut exchange, &OpenGate, node, part, &orders)?     // NodeEnd::Done(replica)
-//! ```
+//! A proved caller: `uses::of_workers::lone_node`.
 //!
 //! A node that waits looks at the length of the history after each idle turn, and in a run it waits for nobody whose
 //! nodes have all ended too early: a run that cannot reach its end says so at once. If another node of its partition
