@@ -4,7 +4,7 @@ ghost use Rattle.std.specs.Prelude.{◌≡◌, None, IfOk, OnOk};
 ghost use Rattle.ball_model.specs.Input.{IsPlain};
 ghost use Rattle.ball_model.specs.Job.{IsJob, job_of};
 ghost use Rattle.ball_model.specs.RunText.{AppendsReport};
-ghost use Rattle.edgelist.specs.Job.{settings_of};
+ghost use Rattle.job.specs.Job.{settings_of};
 ghost use Rattle.workers.specs.Node.{IfDone, IfStarved, IsDone};
 ghost use Rattle.workers.specs.Options.{run_job};
 
