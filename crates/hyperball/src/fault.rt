@@ -79,8 +79,8 @@ impl From<ReplayError> for Fault {
     }
 }
 
-/// The status of a fault.
-pub(crate) const FAULT: u8 = 1;
+// The status of a fault.
+const FAULT: u8 = 1;
 
 /// Reports a fault in one line, which is dropped if it cannot be written, and returns the status of a fault.
 pub(crate) fn tell_fault<F: Write>(faults: &mut F, fault: impl Display + Drop) -> u8

@@ -14,14 +14,30 @@ use Rattle.hyperball.proofs.serve.serve.Goals as goal
 -- a subcommand that fails with some fault fails
 fails_subcommand : (x : Subcommand) (r : Reads) (w : Writes) (f : Fault) → FailsBy x r w f → FailsSubcommand x r w
 fails_subcommand (subcommand.Run v) r w f fails = inr (record { fault = f; due = fails })
+fails_subcommand (subcommand.Replay v) r w fault.Gate fails = inr (record { fault = fault.Gate; due = fails })
 fails_subcommand (subcommand.Replay v) r w fault.Random none = inl none
-fails_subcommand (subcommand.Replay v) r w f fails = inr (record { fault = f; due = fails })
+fails_subcommand (subcommand.Replay v) r w (fault.Input e) fails = inr (record { fault = fault.Input e; due = fails })
+fails_subcommand (subcommand.Replay v) r w (fault.Lacks missing) fails = inr (record { fault = fault.Lacks missing; due = fails })
+fails_subcommand (subcommand.Replay v) r w (fault.Run e) fails = inr (record { fault = fault.Run e; due = fails })
+fails_subcommand (subcommand.Replay v) r w (fault.Replay e) fails = inr (record { fault = fault.Replay e; due = fails })
+fails_subcommand (subcommand.Replay v) r w (fault.Node e) fails = inr (record { fault = fault.Node e; due = fails })
+fails_subcommand (subcommand.Replay v) r w (fault.Gather e) fails = inr (record { fault = fault.Gather e; due = fails })
+fails_subcommand (subcommand.Node v) r w fault.Gate fails = absurd fails
 fails_subcommand (subcommand.Node v) r w fault.Random none = inl none
+fails_subcommand (subcommand.Node v) r w (fault.Input e) fails = absurd fails
+fails_subcommand (subcommand.Node v) r w (fault.Lacks missing) fails = absurd fails
+fails_subcommand (subcommand.Node v) r w (fault.Run e) fails = absurd fails
+fails_subcommand (subcommand.Node v) r w (fault.Replay e) fails = absurd fails
 fails_subcommand (subcommand.Node v) r w (fault.Node e) fails = inr (record { fault = e; due = fails })
-fails_subcommand (subcommand.Node v) r w f fails = absurd fails
+fails_subcommand (subcommand.Node v) r w (fault.Gather e) fails = absurd fails
+fails_subcommand (subcommand.Gather v) r w fault.Gate fails = absurd fails
 fails_subcommand (subcommand.Gather v) r w fault.Random none = inl none
+fails_subcommand (subcommand.Gather v) r w (fault.Input e) fails = absurd fails
+fails_subcommand (subcommand.Gather v) r w (fault.Lacks missing) fails = absurd fails
+fails_subcommand (subcommand.Gather v) r w (fault.Run e) fails = absurd fails
+fails_subcommand (subcommand.Gather v) r w (fault.Replay e) fails = absurd fails
+fails_subcommand (subcommand.Gather v) r w (fault.Node e) fails = absurd fails
 fails_subcommand (subcommand.Gather v) r w (fault.Gather e) fails = inr (record { fault = e; due = fails })
-fails_subcommand (subcommand.Gather v) r w f fails = absurd fails
 
 pub returns-in-Ok-answer-clause-asked : goal.returns-in-Ok-answer-clause-asked
 returns-in-Ok-answer-clause-asked g c = λ a is.
