@@ -24,7 +24,6 @@ no_node s counted p x y y' network plan (Err e) job same refused = λ none.
 
 pub not_unread : {T : Type 0} (p : ℕ) (plan : PlanValue) (r : Result T ServeNodeError) → IfErr r (λ e. IsNoNode e → IsNoStart plan p e) → r ≡ Err (fault.Job no_job.Read) → ⊥
 not_unread p plan (Ok u) refused is = absurd (cc)
-not_unread p plan (Err e) refused is = subst (λ (f : ServeNodeError). IsNoNode f → IsNoStart plan p f) (error_is e is) refused tt
-  where
-    error_is : (e : ServeNodeError) → Err e ≡ Err (fault.Job no_job.Read) → e ≡ fault.Job no_job.Read
-    error_is e is = cc
+not_unread p plan (Err e) refused is =
+    let one : e ≡ fault.Job no_job.Read = cc in
+    subst (λ (f : ServeNodeError). IsNoNode f → IsNoStart plan p f) one refused tt

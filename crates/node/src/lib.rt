@@ -15,7 +15,7 @@
 //! ```
 //!
 //! What a node answers is a function of the commands over one node of the world's definition: the same replica as a
-//! [`world::World`] has, whose batches and checkpoints are kept by others. Both calls have an [`job::Watch`] that
+//! [`world::World`] has, whose batches and checkpoints are kept by others. Both calls have a [`job::Watch`] that
 //! they call as they get on.
 #![tactic(auto)]
 
