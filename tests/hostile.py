@@ -340,6 +340,7 @@ def refused_in_threads(shim):
     chance = random.Random("threads")
     words = ["run", "--log2m", "10", "--limit", "2"]
     four = [*words, "--threads", "4"]
+    kept = ["--restart", "0.0@4096"]  # an order that never falls due: each superstep keeps a snapshot
 
     def edges(vertices):
         return "".join(f"{chance.randrange(vertices)}\t{chance.randrange(vertices)}\n" for _ in range(100000)).encode()
@@ -349,7 +350,7 @@ def refused_in_threads(shim):
 
     data = edges(40000)
     report = ran([*words, "--threads", "1"], data)[1]
-    ways = (["--threads", "2"], ["--threads", "3"], ["--threads", "8"], ["--threads", "4", "--keep", "0"],
+    ways = (["--threads", "2"], ["--threads", "3"], ["--threads", "8"], ["--threads", "4", *kept],
             ["--threads", "4", "--parts", "2"], ["--threads", "8", "--parts", "2", "--replicas", "2"])
     bad = [(it,) for it in ways if ran([*words, *it], data) != (0, report, b"")]
     count("large supersteps, other numbers of threads", len(ways), bad)
@@ -360,6 +361,8 @@ def refused_in_threads(shim):
     report = ran([*words, "--threads", "1"], data)[1]
     begun = how_many([*four, "--lose", "0.0@0"], data, shim, "REFUSE_ALLOC")
     each_call("memory refused: large supersteps", four, data, shim, "REFUSE_ALLOC", holds(report), first=max(1, begun - 100))
+    each_call("memory refused: large supersteps, with snapshots", [*four, *kept], data, shim, "REFUSE_ALLOC", holds(report),
+              first=max(1, begun - 100))
 
 
 def refusals(shim):
@@ -439,6 +442,7 @@ REFUSED_CALLS = (
     ("job", "tests::refusals::calls_where_memory_is_refused"),
     ("replica", "tests::refusals::calls_where_memory_is_refused"),
     ("replica", "tests::threads::indexes_whose_memory_is_refused"),
+    ("replica", "tests::teams::a_ring_where_memory_is_refused"),
     ("state_tests", "of_checkpoint::refusals::calls_where_memory_is_refused"),
     ("state_tests", "of_checkpoint::refusals::writing_asks_for_no_memory"),
     ("state_tests", "of_report::refusals::calls_where_memory_is_refused"),
@@ -450,6 +454,9 @@ REFUSED_CALLS = (
     ("workers", "tests::refusals::a_run_whose_memory_is_refused"),
     ("hyperball", "tests::refusals::words_whose_memory_is_refused"),
 )
+
+
+REFUSED_THREADS = (("replica", "tests::teams::a_ring_where_memory_is_refused"),)
 
 
 def test_ran(crate, test, **more):
@@ -465,22 +472,28 @@ def test_ran(crate, test, **more):
 
 
 def refused_calls(shim):
-    """The tests of calls that may be refused: each tells that it passed, whichever allocation is refused."""
+    """The tests of calls that may be refused: each passes, whichever allocation is refused, or whichever thread."""
     for crate, test in REFUSED_CALLS:
-        plain, bad, call = test_ran(crate, test), [], 0
-        if plain != (0, b"\ntest result: ok\n", b""):
-            bad.append((crate, test, "nothing refused", *plain))
-        with tempfile.TemporaryDirectory() as folder:
-            told = os.path.join(folder, "told")
-            while len(bad) < 5:
-                call += 1
-                answer = test_ran(crate, test, LD_PRELOAD=shim, REFUSE_TELL=told, REFUSE_ALLOC=str(call))
-                if answer != plain:
-                    bad.append((crate, test, call, *answer))
-                if not os.path.exists(told):
-                    break
-                os.remove(told)
-        count(f"memory refused: {crate}, {test.removeprefix('tests::')}", call, bad)
+        in_turn(shim, crate, test, "memory", "REFUSE_ALLOC")
+    for crate, test in REFUSED_THREADS:
+        in_turn(shim, crate, test, "a thread", "REFUSE_THREAD")
+
+
+def in_turn(shim, crate, test, what, kind):
+    plain, bad, call = test_ran(crate, test), [], 0
+    if plain != (0, b"\ntest result: ok\n", b""):
+        bad.append((crate, test, "nothing refused", *plain))
+    with tempfile.TemporaryDirectory() as folder:
+        told = os.path.join(folder, "told")
+        while len(bad) < 5:
+            call += 1
+            answer = test_ran(crate, test, LD_PRELOAD=shim, REFUSE_TELL=told, **{kind: str(call)})
+            if answer != plain:
+                bad.append((crate, test, call, *answer))
+            if not os.path.exists(told):
+                break
+            os.remove(told)
+    count(f"{what} refused: {crate}, {test.removeprefix('tests::')}", call, bad)
 
 
 def lost_workers():

@@ -356,3 +356,34 @@ fn hubs_by_teams(rt: HostRuntime) {
 fn rings_by_teams(rt: HostRuntime) {
     assert!(rt; goes_on_at_last(&rt, &rt, RING, &[12, 12, 12, 12, 12, 0]));
 }
+
+/// Whether the ring goes on by three threads, each replica taking over a snapshot of the one before.
+fn ring_goes_on_by_three<R: AllocGlobal + Threads + Sync>(
+    host: &HostRuntime,
+    rt: &R,
+) -> Option<bool> {
+    let graph = graph(host, RING)?;
+    let team = Team {
+        rt,
+        threads: 3,
+        sizes: Sizes { few: 0, many: 0 },
+    };
+    let run = Run {
+        graph: &graph,
+        log2m: 8,
+        parts: 1,
+        counts: &[12, 12, 12, 12, 12, 0],
+    };
+    goes_on(host, &team, &run, Beside::Recalled)
+}
+
+/// It does, whichever growth or thread a run of this test refuses: without a thread the others do its work, and without
+/// memory all is done again.
+#[test]
+fn a_ring_where_memory_is_refused(rt: HostRuntime) {
+    let right = match ring_goes_on_by_three(&rt, &rt) {
+        None => ring_goes_on_by_three(&rt, &rt),
+        right => right,
+    };
+    assert!(rt; right == Some(true));
+}
