@@ -180,7 +180,7 @@ def old_checkpoint(part, superstep):
 
 def path_with_early(supersteps):
     """Partition 1 of the path a, b, c, d, e in two partitions at superstep 0, which keeps a batch of each of these
-    supersteps. Each tells of one changed vertex and has no row, as no true one does: `TWO_EARLY` of crate `checkpoint`
+    supersteps. Each tells of one changed vertex and has no row, as no true one does: `TWO_EARLY` of crate `state_tests`
     is `b"".join(path_with_early([2, 3]))`."""
     global COUNTED
     before, COUNTED = COUNTED, range(5)

@@ -512,7 +512,8 @@ fn puts_five(writer: &mut MemWriter) -> (bool, bool, u64) {
     (all, writer.try_flush(), writer.failures())
 }
 
-// Puts five bytes in a writer with this room that fails at this call, and returns whether it then holds these bytes.
+// Puts five bytes in a writer with this room that fails at this call. Returns what `puts_five` does, and whether the
+// writer then holds these bytes.
 fn put_in_room(
     alloc: Global,
     room: usize,

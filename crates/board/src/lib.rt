@@ -21,8 +21,8 @@
 //!
 //! While a caller waits with a ticket, mostly nobody else draws one: a caller that comes then looks some sixty times,
 //! and then sleeps, 50 microseconds at first and 800 later, at most a thousand times. A caller with a ticket looks some
-//! sixty times, and then sleeps until it is woken. So the queue is short, and of many threads that call few have to be given a processor between two
-//! calls of one.
+//! sixty times, and then sleeps until it is woken. So the queue is short: however many threads call, a caller waits only
+//! for a few of them to be given a processor.
 //!
 //! An entry takes about 24 bytes. [`Board::length`] and [`Board::join`] take no turn and no memory.
 #![tactic(auto)]

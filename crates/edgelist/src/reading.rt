@@ -84,9 +84,8 @@ impl Drop for Reading {
     }
 }
 
-// Reads records: at most `most` that have the form of one, and then one more, whatever its form.
-// Returns how many of them have that form for certain, and whether one more was read. A row without
-// it is the last that is read.
+// Reads at most `most` records that have the form of one, and then one more. Reading stops at a row without that form.
+// Returns how many rows are sure to have it, and whether one more was read.
 fn read_rows<R: Read + Drop>(
     reader: &mut Reader<R>,
     rows: &mut [Row],

@@ -10,7 +10,7 @@ use Rattle.edgelist.specs.declared.limits.EdgeError.TheVariants as edge_fault
 use Rattle.ball_model.specs.Input.{IsPlain}
 use Rattle.ball_model.specs.RunText.{AppendsReport, ArePlain, Settings}
 use Rattle.ball_model.specs.Sections.{sections_of}
-use Rattle.workers.specs.Options.{run_job}
+use Rattle.workers.specs.Options.{job_asked}
 use Rattle.workers.specs.Run.{BeginsReport, IsFaultIn, IsRunRefusal, RefusesEdges}
 use Rattle.workers.specs.declared.runs.RunError.{RunError}
 use Rattle.workers.specs.declared.runs.RunError.TheVariants as run_fault
@@ -48,9 +48,9 @@ kept_or run_fault.Write w kept wrote = inr (wrote refl)
 -- ---- a run with a list of counted vertices
 -- the report of these parts was appended
 pub reports_listed : (o : RunOptions) (r : Reads) (w : Writes) (bytes first : List ℕ) (p : Parts) → IsRead r bytes → parts_in true false bytes ≡ Ok p → first ≡ p.edges →
-    (ArePlain first p.list → AppendsReport (settings_of (run_job o)) first p.list w.contents.old w.contents.new) → w.failed.new ≡ w.failed.old → DoesJob o true r w
+    (ArePlain first p.list → AppendsReport (settings_of (job_asked o)) first p.list w.contents.old w.contents.new) → w.failed.new ≡ w.failed.old → DoesJob o true r w
 reports_listed o r w bytes first p read found is appended written =
-    let s : Settings = settings_of (run_job o) in
+    let s : Settings = settings_of (job_asked o) in
     record {
       reported = of_input r.bytes.old bytes (λ input. Reports s true input w.contents.old w.contents.new) read.whole (record {
         parts = p;
@@ -103,11 +103,11 @@ lacking o r w bytes missing read found keeps unfailed = record {
 
 -- the run over its parts fails
 pub listed_fails : (o : RunOptions) (r : Reads) (w : Writes) (bytes first : List ℕ) (p : Parts) (e : RunError) → IsRead r bytes → parts_in true false bytes ≡ Ok p → first ≡ p.edges → IsFaultIn o e →
-    (IsPlain first → RefusesEdges (settings_of (run_job o)) first e) → (ArePlain first p.list → IsRunRefusal (settings_of (run_job o)) first p.list e) → (e ≡ run_fault.Edges edge_fault.Read → ⊥) →
+    (IsPlain first → RefusesEdges (settings_of (job_asked o)) first e) → (ArePlain first p.list → IsRunRefusal (settings_of (job_asked o)) first p.list e) → (e ≡ run_fault.Edges edge_fault.Read → ⊥) →
     (e ≢ run_fault.Write → Keeps w.contents.old w.contents.new) → (e ≡ run_fault.Write → RisesByOne w.failed.old w.failed.new) → (e ≢ run_fault.Write → w.failed.new ≡ w.failed.old) →
-    (e ≡ run_fault.Write → ArePlain first p.list → BeginsReport (settings_of (run_job o)) first p.list w.contents.old w.contents.new) → FailsJob o true r w (fault.Run e)
+    (e ≡ run_fault.Write → ArePlain first p.list → BeginsReport (settings_of (job_asked o)) first p.list w.contents.old w.contents.new) → FailsJob o true r w (fault.Run e)
 listed_fails o r w bytes first p e read found is due of_edges refused other kept wrote written begun =
-    let s : Settings = settings_of (run_job o) in
+    let s : Settings = settings_of (job_asked o) in
     record {
       due = (
         due,
@@ -144,10 +144,10 @@ reports_input s (Some input) old new done = record {
   within = λ listed. absurd (cc);
 }
 
-pub reports_unlisted : (o : RunOptions) (counted : Bool) (r : Reads) (w : Writes) → counted ≡ false → IfSome r.bytes.old (λ input. ArePlain input None → AppendsReport (settings_of (run_job o)) input None w.contents.old w.contents.new) →
+pub reports_unlisted : (o : RunOptions) (counted : Bool) (r : Reads) (w : Writes) → counted ≡ false → IfSome r.bytes.old (λ input. ArePlain input None → AppendsReport (settings_of (job_asked o)) input None w.contents.old w.contents.new) →
     (CountsOne r.failed.old r.failed.new → ⊥) → w.failed.new ≡ w.failed.old → DoesJob o counted r w
 reports_unlisted o counted r w none done unfailed written = subst (λ (b : Bool). DoesJob o b r w) (sym none) (record {
-  reported = reports_input (settings_of (run_job o)) r.bytes.old w.contents.old w.contents.new done;
+  reported = reports_input (settings_of (job_asked o)) r.bytes.old w.contents.old w.contents.new done;
   unfailed = unfailed;
   listed = λ yes rises. absurd (cc);
   written = written;
@@ -168,16 +168,16 @@ begins_input s None old new begun = tt
 begins_input s (Some input) old new begun = record { parts = record { edges = input; list = None; script = None }; found = refl; begun = begun }
 
 pub unlisted_fails : (o : RunOptions) (counted : Bool) (r : Reads) (w : Writes) (e : RunError) → counted ≡ false → IsFaultIn o e →
-    ForPlain r.bytes.old (λ input. RefusesEdges (settings_of (run_job o)) input e) → IfSome r.bytes.old (λ input. ArePlain input None → IsRunRefusal (settings_of (run_job o)) input None e) →
+    ForPlain r.bytes.old (λ input. RefusesEdges (settings_of (job_asked o)) input e) → IfSome r.bytes.old (λ input. ArePlain input None → IsRunRefusal (settings_of (job_asked o)) input None e) →
     (e ≡ run_fault.Edges edge_fault.Read → Rises r.failed.old r.failed.new) → (CountsOne r.failed.old r.failed.new → e ≡ run_fault.Edges edge_fault.Read) →
     (e ≢ run_fault.Write → Keeps w.contents.old w.contents.new) → (e ≡ run_fault.Write → RisesByOne w.failed.old w.failed.new) → (e ≢ run_fault.Write → w.failed.new ≡ w.failed.old) →
-    (e ≡ run_fault.Write → IfSome r.bytes.old (λ input. ArePlain input None → BeginsReport (settings_of (run_job o)) input None w.contents.old w.contents.new)) → FailsJob o counted r w (fault.Run e)
+    (e ≡ run_fault.Write → IfSome r.bytes.old (λ input. ArePlain input None → BeginsReport (settings_of (job_asked o)) input None w.contents.old w.contents.new)) → FailsJob o counted r w (fault.Run e)
 unlisted_fails o counted r w e none due of_edges refused read failed kept wrote written begun = subst (λ (b : Bool). FailsJob o b r w (fault.Run e)) (sym none) (record {
-  due = (due, refuses_input (settings_of (run_job o)) r.bytes.old e of_edges refused);
+  due = (due, refuses_input (settings_of (job_asked o)) r.bytes.old e of_edges refused);
   listed = λ yes_listed. absurd (cc);
   unlisted = λ _. record { read = λ is. read (same_run e _ is); failed = λ one. ap fault.Run (failed one) };
   kept = kept_or e w kept wrote;
   write = λ bad. wrote (same_run e _ bad);
   written = λ fine. written (λ bad. fine (ap fault.Run bad));
-  begun = λ bad. begins_input (settings_of (run_job o)) r.bytes.old w.contents.old w.contents.new (begun (same_run e _ bad));
+  begun = λ bad. begins_input (settings_of (job_asked o)) r.bytes.old w.contents.old w.contents.new (begun (same_run e _ bad));
 })

@@ -12,7 +12,7 @@ use Rattle.hyperball.specs.declared.fault.Fault.{Fault}
 use Rattle.hyperball.specs.declared.fault.Fault.TheVariants as fault
 use Rattle.hyperball.specs.declared.whole.Lack.TheVariants as lack
 use Rattle.job.specs.declared.limits.TheConstants.{MOST_BYTES}
-use Rattle.workers.specs.Options.{run_job}
+use Rattle.workers.specs.Options.{job_asked}
 use Rattle.workers.specs.Run.{BeginsReport, IsFaultIn, IsRunRefusal, RefusesEdges}
 use Rattle.workers.specs.declared.runs.RunError.{RunError}
 use Rattle.workers.specs.declared.runs.RunError.TheVariants as run_fault
@@ -32,7 +32,7 @@ pub record Reports (s : Settings) (counted : Bool) (input : List ℕ) (old new :
 -- failures can be counted)
 pub record DoesJob (o : RunOptions) (counted : Bool) (r : Reads) (w : Writes) : Type 0 where
   pub reported : IfSome r.bytes.old (λ input.
-      Reports (settings_of (run_job o)) counted input w.contents.old w.contents.new)
+      Reports (settings_of (job_asked o)) counted input w.contents.old w.contents.new)
   pub unfailed : CountsOne r.failed.old r.failed.new → ⊥
   pub listed : counted ≡ true → Rises r.failed.old r.failed.new → ⊥
   pub written : w.failed.new ≡ w.failed.old
@@ -62,7 +62,7 @@ IsFault o counted told (fault.Lacks missing) =
     (counted ≡ true) × ((missing ≡ lack.List)
     × IfSome told (λ input. parts_in counted false input ≡ Err missing))
 IsFault o counted told (fault.Run e) =
-    IsFaultIn o e × IfSome told (λ input. RefusesInput (settings_of (run_job o)) counted input e)
+    IsFaultIn o e × IfSome told (λ input. RefusesInput (settings_of (job_asked o)) counted input e)
 IsFault o counted told f = ⊥
 
 -- what a run with a list does with its reader, and which faults it tells of that: it reads the input whole, and one that is
@@ -88,4 +88,4 @@ pub record FailsJob (o : RunOptions) (counted : Bool) (r : Reads) (w : Writes) (
   pub write : e ≡ fault.Run run_fault.Write → RisesByOne w.failed.old w.failed.new
   pub written : e ≢ fault.Run run_fault.Write → w.failed.new ≡ w.failed.old
   pub begun : e ≡ fault.Run run_fault.Write → IfSome r.bytes.old (λ input.
-      BeginsToReport (settings_of (run_job o)) counted input w.contents.old w.contents.new)
+      BeginsToReport (settings_of (job_asked o)) counted input w.contents.old w.contents.new)

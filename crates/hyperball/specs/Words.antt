@@ -23,7 +23,7 @@ use Rattle.hyperball.specs.declared.cli.WordsError.TheVariants as words
 use Rattle.hyperball.specs.CommandLine.{Parsers, TakeNames, hyperball_app}
 use Rattle.hyperball.specs.Orders.{AreOrders}
 use Rattle.job.specs.declared.input.JobInput.{JobInput}
-use Rattle.workers.specs.Options.{run_job}
+use Rattle.workers.specs.Options.{job_asked}
 
 -- the words of a command line as texts
 abbrev pub texts_of : List (String Global) → List Text
@@ -92,7 +92,7 @@ pub record AreJobOptionsOf (rows : List Row) (job : JobInput) : Type 0 where
 
 -- what a run asks of its job
 abbrev pub run_input : RunArgs → JobInput
-run_input w = record { options = run_job w.options; counted = w.counted }
+run_input w = record { options = job_asked w.options; counted = w.counted }
 
 -- the options of a run have these values, whatever its lists of orders are
 pub record AreOptionsOf (rows : List Row) (w : RunArgs) : Type 0 where

@@ -3,8 +3,8 @@
 use ball_model::NodeId;
 use edgelist::{ReadWatch, Unwatched};
 
-/// What a command calls as it reads its edge list, and as its nodes get on. No clause says anything
-/// of it, and by default each call does nothing.
+/// What a command calls once its edge list is read and as its nodes get on; a run calls it while it reads, too. No
+/// clause says anything of it, and by default each call does nothing.
 pub trait Watch: ReadWatch {
     /// The edge list was read: how many records it has, and how many vertices.
     fn after_read(&self, _records: u64, _vertices: u32) {}

@@ -33,10 +33,10 @@ const DECODE: usize = 45;
 
 const RAISE: usize = 20;
 
-// Into how many blocks many rows are cut for each processor, as a power of 2, if all are to work.
+// If all processors work on many rows, each gets 2^BLOCKS blocks.
 const BLOCKS: u32 = 2;
 
-// More threads than these are not counted, and there are no more blocks, of which each has a thread.
+// At most this many threads are asked for, and rows are cut into at most as many blocks.
 const MOST_THREADS: usize = 1024;
 
 // How often rows are halved for that many.
@@ -122,7 +122,7 @@ pub(crate) struct Alone;
 impl Hands for Alone {
     ghost ready = { λ hands. ⊤ };
 
-    // A thread alone takes as long to raise the rows, and has to decode more edges.
+    // Pulling never pays for one thread: it raises as many rows, and decodes more edges.
     #[inline(always)]
     fn are_many(&self, _parts: u16, _width: usize, _marks: &[bool]) -> bool {
         false

@@ -6,7 +6,7 @@ ghost use Rattle.ball_model.specs.Job.{IsJob, job_of};
 ghost use Rattle.ball_model.specs.RunText.{AppendsReport};
 ghost use Rattle.job.specs.Job.{settings_of};
 ghost use Rattle.workers.specs.Node.{IfDone, IfStarved, IsDone};
-ghost use Rattle.workers.specs.Options.{run_job};
+ghost use Rattle.workers.specs.Options.{job_asked};
 
 use crate::of_graph::first_part;
 use ball_model::{CountedWrite, MemReader, NodeId, Plan};
@@ -28,7 +28,7 @@ pub fn report_of<T: AllocGlobal + Threads + Wait + Sync, W: CountedWrite>(
     options: &RunOptions,
 ) -> Result<(), RunError>
     ensures { IsPlain edges.now → OnOk result (AppendsReport
-        (settings_of (run_job options.now)) edges.now None
+        (settings_of (job_asked options.now)) edges.now None
         (W.contents writer.old) (W.contents writer.new)) }
 {
     let mut reader = MemReader::new(edges, None);

@@ -28,11 +28,11 @@ use Rattle.workers.specs.declared.runs.RunError.TheVariants as fault
 use Rattle.workers.specs.declared.runs.RunError.TheVariants.{Write}
 use Rattle.ball_model.specs.Job.{job_of}
 use Rattle.workers.specs.Job.{IsFaultOf, IsFirstFault}
-use Rattle.workers.specs.Options.{are_in_limits, run_job}
+use Rattle.workers.specs.Options.{are_in_limits, job_asked}
 use Rattle.workers.specs.Run.{AddsFront, AddsReport, HasFirstFault, IsFaultIn, IsOfEnds, IsRunFault, IsRunRefusal, RefusesEdges, WherePlain, network_fault}
 
 -- what holds of plain bytes, and what follows from it
-pub where_weaker : (o : RunOptions) (told : Option (List ℕ)) (counted : Option (Bor (List ℕ))) (P Q : Settings → List ℕ → Option (List ℕ) → Type 0) → ((input : List ℕ) → P (settings_of (run_job o)) input (list_in counted) → Q (settings_of (run_job o)) input (list_in counted)) → WherePlain o told counted P → WherePlain o told counted Q
+pub where_weaker : (o : RunOptions) (told : Option (List ℕ)) (counted : Option (Bor (List ℕ))) (P Q : Settings → List ℕ → Option (List ℕ) → Type 0) → ((input : List ℕ) → P (settings_of (job_asked o)) input (list_in counted) → Q (settings_of (job_asked o)) input (list_in counted)) → WherePlain o told counted P → WherePlain o told counted Q
 where_weaker o None counted P Q f h = tt
 where_weaker o (Some input) counted P Q f h = λ plain. f input (h plain)
 
@@ -41,13 +41,13 @@ where_always o None counted Q f = tt
 where_always o (Some input) counted Q f = λ plain. f _ _ _
 
 -- what holds of plain bytes under the job's settings holds under the run's
-pub where_job : (o : RunOptions) (asked : JobOptions) (told : Option (List ℕ)) (counted : Option (Bor (List ℕ))) (P : Settings → List ℕ → Option (List ℕ) → Type 0) → asked ≡ run_job o → edges.WherePlain told counted (λ input list. P (settings_of asked) input list) → WherePlain o told counted P
+pub where_job : (o : RunOptions) (asked : JobOptions) (told : Option (List ℕ)) (counted : Option (Bor (List ℕ))) (P : Settings → List ℕ → Option (List ℕ) → Type 0) → asked ≡ job_asked o → edges.WherePlain told counted (λ input list. P (settings_of asked) input list) → WherePlain o told counted P
 where_job o asked told counted P is h = subst (λ (a : JobOptions). edges.WherePlain told counted (λ input list. P (settings_of a) input list)) is h
 
-pub plain_job : (o : RunOptions) (asked : JobOptions) (told : Option (List ℕ)) (P : Settings → List ℕ → Type 0) → asked ≡ run_job o → ForPlain told (λ input. P (settings_of asked) input) → ForPlain told (λ input. P (settings_of (run_job o)) input)
+pub plain_job : (o : RunOptions) (asked : JobOptions) (told : Option (List ℕ)) (P : Settings → List ℕ → Type 0) → asked ≡ job_asked o → ForPlain told (λ input. P (settings_of asked) input) → ForPlain told (λ input. P (settings_of (job_asked o)) input)
 plain_job o asked told P is h = subst (λ (a : JobOptions). ForPlain told (λ input. P (settings_of a) input)) is h
 
-pub plan_job : (o : RunOptions) (asked : JobOptions) (g : Graph) (r : Result PlanValue PlanError) → asked ≡ run_job o → r ≡ plan_asked (numbers_asked asked) g → r ≡ plan_asked (numbers_asked (run_job o)) g
+pub plan_job : (o : RunOptions) (asked : JobOptions) (g : Graph) (r : Result PlanValue PlanError) → asked ≡ job_asked o → r ≡ plan_asked (numbers_asked asked) g → r ≡ plan_asked (numbers_asked (job_asked o)) g
 plan_job o asked g r is h = subst (λ (a : JobOptions). r ≡ plan_asked (numbers_asked a) g) is h
 
 -- what is refused before there is a network
@@ -149,7 +149,7 @@ wrote_front o told counted contents old new text (Err e) report h is = where_wea
 
 pub unwritten : {T : Type 0} (o : RunOptions) (told : Option (List ℕ)) (counted : Option (Bor (List ℕ))) (text : List ℕ) (r : Result T RunError) → WherePlain o told counted (λ s input list. IsReport s input list text) → IfErr r (λ e. e ≡ fault.Write) → WherePlain o told counted (λ s input list. IfErr r (IsRunRefusal s input list))
 unwritten o told counted text (Ok x) report h = where_always o told counted (λ s input list. IfErr {T = ℕ} (Ok 0) (IsRunRefusal s input list)) (λ s input list. tt)
-unwritten o told counted text (Err e) report h = where_weaker o told counted (λ s input list. IsReport s input list text) (λ s input list. IsRunRefusal s input list e) (λ input is. subst (λ (x : RunError). IsRunRefusal (settings_of (run_job o)) input (list_in counted) x) (sym h) (record { network = is.network; read = is.read; planned = is.report.planned })) report
+unwritten o told counted text (Err e) report h = where_weaker o told counted (λ s input list. IsReport s input list text) (λ s input list. IsRunRefusal s input list e) (λ input is. subst (λ (x : RunError). IsRunRefusal (settings_of (job_asked o)) input (list_in counted) x) (sym h) (record { network = is.network; read = is.read; planned = is.report.planned })) report
 
 -- the plan that is asked for, where there is one
 plan_or_fault : (most : ℕ) (p : PlanValue) → IfOk (plan_within most p) (λ q. plan_within most p ≡ Ok p)
@@ -185,7 +185,7 @@ report_planned n network q text is h =
 
 -- ---- the first fault of the nodes' ends
 -- of a network that was read
-job_first : (o : RunOptions) (network : Network) (plan : PlanValue) (e : RunError) → plan_asked (numbers_asked (run_job o)) network.graph ≡ Ok plan → (e ≢ fault.Memory → IsFirstFault (job_of network.graph plan) o e) → IsOfEnds e → HasFirstFault o network e
+job_first : (o : RunOptions) (network : Network) (plan : PlanValue) (e : RunError) → plan_asked (numbers_asked (job_asked o)) network.graph ≡ Ok plan → (e ≢ fault.Memory → IsFirstFault (job_of network.graph plan) o e) → IsOfEnds e → HasFirstFault o network e
 job_first o network plan e asked first own = record { plan = plan; planned = asked; first = first (λ is. subst IsOfEnds is own) }
 
 -- where the network is not read
@@ -204,19 +204,19 @@ network_first o told counted network f read first =
 -- nodes is the first of their ends
 pub record TellsNone (o : RunOptions) (told : Option (List ℕ)) (counted : Option (Bor (List ℕ))) (e : RunError) : Type 0 where
   pub input : WherePlain o told counted (λ s input list. IsRunRefusal s input list e)
-  pub edges : ForPlain told (λ input. RefusesEdges (settings_of (run_job o)) input e)
+  pub edges : ForPlain told (λ input. RefusesEdges (settings_of (job_asked o)) input e)
   pub options : IsFaultIn o e
   pub unwritten : e ≢ fault.Write
   pub first : IsOfEnds e → WherePlain o told counted (λ s input list. IsRunFault o s input list e)
 
 -- the network is not read
-pub unread_by : (o : RunOptions) (asked : JobOptions) (told : Option (List ℕ)) (counted : Option (Bor (List ℕ))) (e : NetworkError) → asked ≡ run_job o → edges.WherePlain told counted (λ input list. edges.RefusesRead (settings_of asked) input list e) → ForPlain told (λ input. edges.RefusesEdges (settings_of asked) input e) → TellsNone o told counted (network_fault e)
+pub unread_by : (o : RunOptions) (asked : JobOptions) (told : Option (List ℕ)) (counted : Option (Bor (List ℕ))) (e : NetworkError) → asked ≡ job_asked o → edges.WherePlain told counted (λ input list. edges.RefusesRead (settings_of asked) input list e) → ForPlain told (λ input. edges.RefusesEdges (settings_of asked) input e) → TellsNone o told counted (network_fault e)
 unread_by o asked told counted e is refuses of_edges = record {
   input =
       where_weaker o told counted (λ s input list. edges.RefusesRead s input list e) (λ s input list. IsRunRefusal s input list (network_fault e))
-      (λ input h. refuses_read (settings_of (run_job o)) input (list_in counted) e h)
+      (λ input h. refuses_read (settings_of (job_asked o)) input (list_in counted) e h)
       (where_job o asked told counted (λ s input list. edges.RefusesRead s input list e) is refuses);
-  edges = λ input known plain. refuses_edges (settings_of (run_job o)) input e (plain_job o asked told (λ s input. edges.RefusesEdges s input e) is of_edges input known plain);
+  edges = λ input known plain. refuses_edges (settings_of (job_asked o)) input e (plain_job o asked told (λ s input. edges.RefusesEdges s input e) is of_edges input known plain);
   options = no_fault o e;
   unwritten = never_written e;
   first = λ own. absurd (unread_own e own);
@@ -225,38 +225,38 @@ unread_by o asked told counted e is refuses of_edges = record {
 -- the network is read
 pub record IsRead (o : RunOptions) (told : Option (List ℕ)) (counted : Option (Bor (List ℕ))) (network : Network) : Type 0 where
   pub all : WherePlain o told counted (λ s input list. AreRead s input list network)
-  pub edges : ForPlain told (λ input. IsOk (network_in (settings_of (run_job o)) input))
+  pub edges : ForPlain told (λ input. IsOk (network_in (settings_of (job_asked o)) input))
 
-pub read_by : (o : RunOptions) (asked : JobOptions) (told : Option (List ℕ)) (counted : Option (Bor (List ℕ))) (network : Network) → asked ≡ run_job o → edges.WherePlain told counted (λ input list. AreRead (settings_of asked) input list network) → ForPlain told (λ input. IsOk (network_in (settings_of asked) input)) → IsRead o told counted network
+pub read_by : (o : RunOptions) (asked : JobOptions) (told : Option (List ℕ)) (counted : Option (Bor (List ℕ))) (network : Network) → asked ≡ job_asked o → edges.WherePlain told counted (λ input list. AreRead (settings_of asked) input list network) → ForPlain told (λ input. IsOk (network_in (settings_of asked) input)) → IsRead o told counted network
 read_by o asked told counted network is read ok = record {
   all = where_job o asked told counted (λ s input list. AreRead s input list network) is read;
   edges = plain_job o asked told (λ s input. IsOk (network_in s input)) is ok;
 }
 
 -- and the text is its report
-pub reported : (o : RunOptions) (told : Option (List ℕ)) (counted : Option (Bor (List ℕ))) (network : Network) (text : List ℕ) → IsRead o told counted network → IsReportOf (numbers_asked (run_job o)) network text → WherePlain o told counted (λ s input list. IsReport s input list text)
+pub reported : (o : RunOptions) (told : Option (List ℕ)) (counted : Option (Bor (List ℕ))) (network : Network) (text : List ℕ) → IsRead o told counted network → IsReportOf (numbers_asked (job_asked o)) network text → WherePlain o told counted (λ s input list. IsReport s input list text)
 reported o told counted network text read report =
     where_weaker o told counted (λ s input list. AreRead s input list network) (λ s input list. IsReport s input list text)
     (λ input h. record { network = network; read = h; report = report }) read.all
 
 -- and there is no report for this reason
-told_none : (o : RunOptions) (told : Option (List ℕ)) (counted : Option (Bor (List ℕ))) (network : Network) (e : RunError) → IsRead o told counted network → RefusesNetwork (numbers_asked (run_job o)) network e → IsFaultIn o e → (IsOfEnds e → HasFirstFault o network e) → TellsNone o told counted e
+told_none : (o : RunOptions) (told : Option (List ℕ)) (counted : Option (Bor (List ℕ))) (network : Network) (e : RunError) → IsRead o told counted network → RefusesNetwork (numbers_asked (job_asked o)) network e → IsFaultIn o e → (IsOfEnds e → HasFirstFault o network e) → TellsNone o told counted e
 told_none o told counted network e read refuses options first = record {
   input =
       where_weaker o told counted (λ s input list. AreRead s input list network) (λ s input list. IsRunRefusal s input list e)
-      (λ input h. refuses_network (settings_of (run_job o)) input (list_in counted) network e h refuses) read.all;
-  edges = λ input known plain. later_edge (settings_of (run_job o)) (numbers_asked (run_job o)) input network e refuses (read.edges input known plain);
+      (λ input h. refuses_network (settings_of (job_asked o)) input (list_in counted) network e h refuses) read.all;
+  edges = λ input known plain. later_edge (settings_of (job_asked o)) (numbers_asked (job_asked o)) input network e refuses (read.edges input known plain);
   options = options;
-  unwritten = λ is. subst (λ (x : RunError). RefusesNetwork (numbers_asked (run_job o)) network x) is refuses;
+  unwritten = λ is. subst (λ (x : RunError). RefusesNetwork (numbers_asked (job_asked o)) network x) is refuses;
   first = λ own. network_first o told counted network e read.all (first own);
 }
 
 -- there is no such plan over it
-pub none_planned : (o : RunOptions) (told : Option (List ℕ)) (counted : Option (Bor (List ℕ))) (network : Network) (e : PlanError) → IsRead o told counted network → plan_asked (numbers_asked (run_job o)) network.graph ≡ Err e → TellsNone o told counted (fault.Plan e)
+pub none_planned : (o : RunOptions) (told : Option (List ℕ)) (counted : Option (Bor (List ℕ))) (network : Network) (e : PlanError) → IsRead o told counted network → plan_asked (numbers_asked (job_asked o)) network.graph ≡ Err e → TellsNone o told counted (fault.Plan e)
 none_planned o told counted network e read is = told_none o told counted network (fault.Plan e) read is tt (λ own. absurd own)
 
 -- there is one, and memory is refused
-pub none_held : (o : RunOptions) (told : Option (List ℕ)) (counted : Option (Bor (List ℕ))) (network : Network) → IsRead o told counted network → HasPlan (numbers_asked (run_job o)) network → TellsNone o told counted fault.Memory
+pub none_held : (o : RunOptions) (told : Option (List ℕ)) (counted : Option (Bor (List ℕ))) (network : Network) → IsRead o told counted network → HasPlan (numbers_asked (job_asked o)) network → TellsNone o told counted fault.Memory
 none_held o told counted network read planned = told_none o told counted network fault.Memory read planned tt (λ own. absurd own)
 
 -- and the nodes have a fault
@@ -271,9 +271,9 @@ job_options o fault.Memory h = tt
 job_options o (fault.Starved node s q) h = h
 job_options o fault.Write h = absurd h
 
-pub none_done : (o : RunOptions) (told : Option (List ℕ)) (counted : Option (Bor (List ℕ))) (network : Network) (plan : PlanValue) (e : RunError) → IsRead o told counted network → ◌≡◌ {A = Result PlanValue PlanError} (Ok plan) (plan_asked (numbers_asked (run_job o)) network.graph) → IsFaultOf o.parts o e → (e ≢ fault.Memory → IsFirstFault (job_of network.graph plan) o e) → TellsNone o told counted e
+pub none_done : (o : RunOptions) (told : Option (List ℕ)) (counted : Option (Bor (List ℕ))) (network : Network) (plan : PlanValue) (e : RunError) → IsRead o told counted network → ◌≡◌ {A = Result PlanValue PlanError} (Ok plan) (plan_asked (numbers_asked (job_asked o)) network.graph) → IsFaultOf o.parts o e → (e ≢ fault.Memory → IsFirstFault (job_of network.graph plan) o e) → TellsNone o told counted e
 none_done o told counted network plan e read asked options first =
-    told_none o told counted network e read (refuses_job (numbers_asked (run_job o)) network o e options (planned (numbers_asked (run_job o)) network.graph plan asked)) (job_options o e options)
+    told_none o told counted network e read (refuses_job (numbers_asked (job_asked o)) network o e options (planned (numbers_asked (job_asked o)) network.graph plan asked)) (job_options o e options)
     (job_first o network plan e (sym asked) first)
 
 -- no fault of the nodes is one of the edge list
@@ -285,8 +285,8 @@ abbrev pub EndsUnwritten : {T W : Type 0} → RunOptions → Option (List ℕ) �
 EndsUnwritten o told counted before after contents failed_calls writer r = record {
   ok : OnOk r (WherePlain o told counted (AddsReport contents writer writer));
   refused : WherePlain o told counted (λ s input list. IfErr r (IsRunRefusal s input list));
-  edges : ForPlain told (λ input. OnOk r (IsOk (network_in (settings_of (run_job o)) input)));
-  of_edges : ForPlain told (λ input. IfErr r (RefusesEdges (settings_of (run_job o)) input));
+  edges : ForPlain told (λ input. OnOk r (IsOk (network_in (settings_of (job_asked o)) input)));
+  of_edges : ForPlain told (λ input. IfErr r (RefusesEdges (settings_of (job_asked o)) input));
   read : r ≡ Err (fault.Edges edge.Read) → Rises before after;
   failed : CountsOne before after → r ≡ Err (fault.Edges edge.Read);
   write : r ≡ Err fault.Write → RisesByOne (failed_calls writer) (failed_calls writer);

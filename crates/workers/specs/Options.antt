@@ -9,8 +9,8 @@ use Rattle.workers.specs.declared.worker.node_run.NodeOrders.{NodeOrders}
 use Rattle.workers.specs.declared.options.RunOptions.{RunOptions}
 
 -- what is asked of the job that is run
-abbrev pub run_job : RunOptions → JobOptions
-run_job o = record {
+abbrev pub job_asked : RunOptions → JobOptions
+job_asked o = record {
   log2m = o.log2m;
   seed = o.seed;
   parts = o.parts;

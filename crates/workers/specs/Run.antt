@@ -15,13 +15,13 @@ use Rattle.workers.specs.declared.options.RunOptions.{RunOptions}
 use Rattle.workers.specs.declared.runs.RunError.{RunError}
 use Rattle.workers.specs.declared.runs.RunError.TheVariants as fault
 use Rattle.workers.specs.Job.{IsFaultOf, IsFirstFault}
-use Rattle.workers.specs.Options.{are_in_limits, run_job}
+use Rattle.workers.specs.Options.{are_in_limits, job_asked}
 
 -- if a reader tells its bytes, and these and the list are plain, this holds of what is asked
 abbrev pub WherePlain : RunOptions → Option (List ℕ) → Option (Bor (List ℕ)) →
     (Settings → List ℕ → Option (List ℕ) → Type 0) → Type 0
 WherePlain o told counted holds = IfSome told (λ input.
-    ArePlain input (list_in counted) → holds (settings_of (run_job o)) input (list_in counted))
+    ArePlain input (list_in counted) → holds (settings_of (job_asked o)) input (list_in counted))
 
 -- a writer of these contents is given the report of what is asked
 abbrev pub AddsReport : {W : Type 0} → (W → Option (List ℕ)) → W → W →
@@ -66,7 +66,7 @@ IsOfEnds fault.Write = ⊥
 -- over a network there is such a plan, and the fault is the first of the ends of all nodes
 pub record HasFirstFault (o : RunOptions) (network : Network) (e : RunError) : Type 0 where
   pub plan : PlanValue
-  pub planned : plan_asked (numbers_asked (run_job o)) network.graph ≡ Ok plan
+  pub planned : plan_asked (numbers_asked (job_asked o)) network.graph ≡ Ok plan
   pub first : IsFirstFault (job_of network.graph plan) o e
 
 -- and both say that network

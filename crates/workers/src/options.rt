@@ -1,7 +1,7 @@
 //! What is asked of a run.
 
 ghost use Rattle.std.specs.Prelude.{◌≡◌};
-ghost use Rattle.workers.specs.Options.{are_all_named, are_in_limits, is_named, run_job};
+ghost use Rattle.workers.specs.Options.{are_all_named, are_in_limits, is_named, job_asked};
 
 use ball_model::plan::{GREATEST_LIMIT, MOST_REPLICAS};
 use ball_model::{Estimate, NodeId};
@@ -27,8 +27,8 @@ pub struct RunOptions {
     /// Whether up to 2^31 vertices and 2^32 - 1 records are taken, in place of 2^24 and 2^26.
     pub large: bool,
     /// How many threads read the edge list, how many large supersteps use, of all nodes together, each of which has at
-    /// least one, and how many make the report's figures; 0: as many as there are processors. One more makes the digest
-    /// of the edges, and the largest supersteps are cut into four times as many blocks if all processors may work. No
+    /// least one, and how many make the report's figures; 0: as many as there are processors. One more thread makes the
+    /// digest of the edges, and the largest supersteps are cut into four times as many blocks if all processors may work. No
     /// report depends on it.
     pub threads: u16,
     /// How many replicas each partition has, from 1 to 4.
@@ -68,7 +68,7 @@ fn are_all_named(parts: u16, replicas: u8, orders: &[(NodeId, u32)]) -> bool
 impl RunOptions {
     /// What is asked of the job that is run.
     pub fn job(&self) -> JobOptions
-        ensures { result ≡ run_job self.now }
+        ensures { result ≡ job_asked self.now }
     {
         JobOptions {
             log2m: self.log2m,

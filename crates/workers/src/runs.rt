@@ -11,7 +11,7 @@ ghost use Rattle.job.specs.Job.{settings_of};
 ghost use Rattle.edgelist.specs.Reading.{CountsOne};
 ghost use Rattle.graph.specs.Records.{ForPlain};
 ghost use Rattle.workers.specs.Job.{AreDone};
-ghost use Rattle.workers.specs.Options.{are_in_limits, run_job};
+ghost use Rattle.workers.specs.Options.{are_in_limits, job_asked};
 ghost use Rattle.workers.specs.Run.{AddsFront, AddsReport, IsFaultIn, IsOfEnds, IsRunFault};
 ghost use Rattle.workers.specs.Run.{IsRunRefusal, RefusesEdges, WherePlain};
 
@@ -189,9 +189,9 @@ pub fn run<T: AllocGlobal + Threads + Wait + Sync, R: CountedRead, W: CountedWri
     ensures refused { WherePlain options.now (R.remaining reader.old) counted.entry
         (λ s input list. IfErr result (IsRunRefusal s input list)) }
     ensures edges { ForPlain (R.remaining reader.old) (λ input.
-        OnOk result (IsOk (network_in (settings_of (run_job options.now)) input))) }
+        OnOk result (IsOk (network_in (settings_of (job_asked options.now)) input))) }
     ensures of_edges { ForPlain (R.remaining reader.old) (λ input.
-        IfErr result (RefusesEdges (settings_of (run_job options.now)) input)) }
+        IfErr result (RefusesEdges (settings_of (job_asked options.now)) input)) }
     ensures read { result ≡ Err (RunError.Edges EdgeError.Read) →
         Rises (R.failed_calls reader.old) (R.failed_calls reader.new) }
     ensures failed { CountsOne (R.failed_calls reader.old) (R.failed_calls reader.new) →
@@ -236,9 +236,9 @@ pub fn run_watched<
     ensures refused { WherePlain options.now (R.remaining reader.old) counted.entry
         (λ s input list. IfErr result (IsRunRefusal s input list)) }
     ensures edges { ForPlain (R.remaining reader.old) (λ input.
-        OnOk result (IsOk (network_in (settings_of (run_job options.now)) input))) }
+        OnOk result (IsOk (network_in (settings_of (job_asked options.now)) input))) }
     ensures of_edges { ForPlain (R.remaining reader.old) (λ input.
-        IfErr result (RefusesEdges (settings_of (run_job options.now)) input)) }
+        IfErr result (RefusesEdges (settings_of (job_asked options.now)) input)) }
     ensures read { result ≡ Err (RunError.Edges EdgeError.Read) →
         Rises (R.failed_calls reader.old) (R.failed_calls reader.new) }
     ensures failed { CountsOne (R.failed_calls reader.old) (R.failed_calls reader.new) →

@@ -11,7 +11,7 @@
 //! Proved callers: `uses::of_world::{start, send_and_close, superstep_of, answers}`.
 //!
 //! [`replay::replay`] plays a script, a command on each line, over an edge list, and writes the answers;
-//! [`replay::replay_watched`] also calls an [`job::Watch`] as it proceeds.
+//! [`replay::replay_watched`] also calls a [`job::Watch`] as it proceeds.
 //!
 //! An event is refused ([`WorldError`]) if there is no such node, target, message or copy, or if memory is refused;
 //! then the world is as it was.

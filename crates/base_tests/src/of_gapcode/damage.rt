@@ -2,7 +2,8 @@
 
 use super::*;
 
-/// Bytes of lists, how many lists they are, a bound, and how often lists are read as each bit is turned in turn: lists
+/// Bytes of lists, how many lists they are, a bound, and for how many of the changes of one bit the bytes are still
+/// lists: lists
 /// [], [0] and [1]; list [0, 2, 5]; lists of one great element.
 static SPELLED: [(&[u8], usize, u32, u32); 4] = [
     (&THREE, 3, 9, 2),

@@ -1,4 +1,5 @@
-//! Worked checkpoints, as FORMATS.md spells them: by other programs (`tests/vectors.py`), which make each digest too.
+//! Worked checkpoints, as FORMATS.md spells them: made by other programs, digests too. That of two early batches is
+//! `path_with_early` of `tests/vectors.py`.
 //!
 //! Hashes are those under seed 0 at 16 registers: vertex 0 has rank 3 in register 14, vertex 1 rank 1 in register 6,
 //! vertex 2 rank 2 in register 0, vertex 3 rank 1 in register 15.

@@ -12,7 +12,7 @@ use Rattle.edgelist.specs.declared.limits.EdgeError.TheVariants as edge
 use Rattle.workers.specs.declared.runs.RunError.{RunError}
 use Rattle.workers.specs.declared.runs.RunError.TheVariants as fault
 use Rattle.workers.specs.Job.{IsFaultOf}
-use Rattle.workers.specs.Options.{run_job}
+use Rattle.workers.specs.Options.{job_asked}
 use Rattle.workers.specs.Run.{IsRunRefusal, WherePlain, network_fault}
 use Rattle.workers.proofs.PathLemmas.{ok_is_no_err}
 use Rattle.workers.proofs.RunLemmas.{EndsUnwritten, IsRead, TellsNone, edges_back, edges_told, ends_unwritten, listed_edges, none_done, none_held, none_planned, plan_job, planned, read_by, report_planned, reported, unread_by, unread_edges, unwritten, unwritten_edges, where_always, wrote, wrote_front}
@@ -27,11 +27,11 @@ returns-then-not-are_in_limits-clause-refused g c = where_always c.args.options.
 network_read : (g : Over) (c : In_ok-read g) → IsRead c.args.options.now (g.R.Read.remaining c.args.reader.now) c.args.counted c.in_ok-read.read.graph
 network_read g c = read_by c.args.options.now c.job-job.result (g.R.Read.remaining c.args.reader.now) c.args.counted c.in_ok-read.read.graph c.job-job.ensures c.in_ok-read.ensures.ok c.in_ok-read.ensures.edges
 
-plan_made : (g : Over) (c : In_ok-bare g) → ◌≡◌ {A = Result PlanValue PlanError} (Ok (signed c.in_ok-read.read.graph.graph c.in_ok-bare.bare)) (plan_asked (numbers_asked (run_job c.args.options.now)) c.in_ok-read.read.graph.graph)
+plan_made : (g : Over) (c : In_ok-bare g) → ◌≡◌ {A = Result PlanValue PlanError} (Ok (signed c.in_ok-read.read.graph.graph c.in_ok-bare.bare)) (plan_asked (numbers_asked (job_asked c.args.options.now)) c.in_ok-read.read.graph.graph)
 plan_made g c = plan_job c.args.options.now c.job-job.result c.in_ok-read.read.graph.graph (Ok (signed c.in_ok-read.read.graph.graph c.in_ok-bare.bare)) c.job-job.ensures c.in_ok-bare.ensures.ok
 
-has_plan : (g : Over) (c : In_ok-bare g) → HasPlan (numbers_asked (run_job c.args.options.now)) c.in_ok-read.read.graph
-has_plan g c = planned (numbers_asked (run_job c.args.options.now)) c.in_ok-read.read.graph.graph (signed c.in_ok-read.read.graph.graph c.in_ok-bare.bare) (plan_made g c)
+has_plan : (g : Over) (c : In_ok-bare g) → HasPlan (numbers_asked (job_asked c.args.options.now)) c.in_ok-read.read.graph
+has_plan g c = planned (numbers_asked (job_asked c.args.options.now)) c.in_ok-read.read.graph.graph (signed c.in_ok-read.read.graph.graph c.in_ok-bare.bare) (plan_made g c)
 
 -- it ends for another reason than the reader
 ends_over : {T : Type 0} (g : Over) (c : In_ok-read g) (e : RunError) → TellsNone c.args.options.now (g.R.Read.remaining c.args.reader.now) c.args.counted e → e ≢ fault.Edges edge.Read →
@@ -89,11 +89,11 @@ returns-in_err-text g c =
 
 -- the text is the report
 told_text : (g : Over) (c : In_ok-text g) → IsRead c.args.options.now (g.R.Read.remaining c.args.reader.now) c.args.counted c.in_ok-read.read.graph →
-    ◌≡◌ {A = Result PlanValue PlanError} (Ok (signed c.in_ok-read.read.graph.graph c.in_ok-bare.bare)) (plan_asked (numbers_asked (run_job c.args.options.now)) c.in_ok-read.read.graph.graph) →
+    ◌≡◌ {A = Result PlanValue PlanError} (Ok (signed c.in_ok-read.read.graph.graph c.in_ok-bare.bare)) (plan_asked (numbers_asked (job_asked c.args.options.now)) c.in_ok-read.read.graph.graph) →
     WherePlain c.args.options.now (g.R.Read.remaining c.args.reader.now) c.args.counted (λ s input list. IsReport s input list c.in_ok-text.text)
 told_text g c read plan =
     reported c.args.options.now (g.R.Read.remaining c.args.reader.now) c.args.counted c.in_ok-read.read.graph c.in_ok-text.text read
-    (report_planned (numbers_asked (run_job c.args.options.now)) c.in_ok-read.read.graph c.in_ok-planned.planned.plan c.in_ok-text.text (rw c.in_ok-planned.ensures.plan plan) c.in_ok-text.ensures)
+    (report_planned (numbers_asked (job_asked c.args.options.now)) c.in_ok-read.read.graph c.in_ok-planned.planned.plan c.in_ok-text.text (rw c.in_ok-planned.ensures.plan plan) c.in_ok-text.ensures)
 
 pub returns-clause-refused : goal.returns-clause-refused
 returns-clause-refused g c =
@@ -116,9 +116,9 @@ returns-clause-begun g c =
 pub returns-clause-edges : goal.returns-clause-edges
 returns-clause-edges g c =
     let read = network_read g (goal.at.returns-clause-edges g c).In_ok-read in
-    listed_edges (settings_of (run_job c.args.options.now)) (g.R.Read.remaining c.args.reader.now) c.write_text.result read.edges
+    listed_edges (settings_of (job_asked c.args.options.now)) (g.R.Read.remaining c.args.reader.now) c.write_text.result read.edges
 
 pub returns-clause-of_edges : goal.returns-clause-of_edges
 returns-clause-of_edges g c =
     let read = network_read g (goal.at.returns-clause-of_edges g c).In_ok-read in
-    unwritten_edges (settings_of (run_job c.args.options.now)) (g.R.Read.remaining c.args.reader.now) c.write_text.result read.edges c.write_text.ensures.kind
+    unwritten_edges (settings_of (job_asked c.args.options.now)) (g.R.Read.remaining c.args.reader.now) c.write_text.result read.edges c.write_text.ensures.kind
