@@ -1,5 +1,5 @@
 -- Lists by the places where they begin.
-use Rattle.std.proofs.Common.{◌≡◌, ℕ, zero, suc, ◌+◌, ◌-◌, ◌*◌, ◌^◌, ◌<◌, ◌≤◌, Bool, false, List, [], ◌∷◌, ◌++◌, length, get_or, drop, Ok, refl, sym, ap, subst, ◌∙◌, append_assoc, arith, length-append}
+use Rattle.std.proofs.Common.{◌≡◌, ℕ, zero, suc, ◌+◌, ◌-◌, ◌*◌, ◌^◌, ◌<◌, ◌≤◌, Bool, false, List, [], ◌∷◌, ◌++◌, length, get_or, take, drop, Ok, refl, sym, ap, subst, ◌∙◌, append_assoc, arith, length-append}
 use Rattle.std.specs.Prelude.{replicate}
 use Rattle.std.specs.List.{flat_map}
 use Rattle.std.proofs.lemmas.List.{append-nil, drop_at, drop_more, drop_all, length-drop, length-map, get_or-map, get_or-append-add}
@@ -107,6 +107,18 @@ pushed bits places list is up =
     let starts : places ++ length bits ∷ [] ≡ starts_from 0 (lists ++ list ∷ []) =
     ap (λ (ps : List ℕ). ps ++ length bits ∷ []) is.placed ∙ ap (λ (n : ℕ). starts_from 0 lists ++ n ∷ []) (sym long) ∙ sym (starts-append 0 lists list) in
     index_of (bits ++ list_bits list) [] (places ++ length bits ∷ []) (lists ++ list ∷ []) (sym all ∙ sym (append-nil (flat_map list_bits (lists ++ list ∷ [])))) starts (ascending-append lists list is.ascend up)
+
+-- where a list begins, that many bits are before it
+starts-at : (n : ℕ) (lists : List (List ℕ)) (i : ℕ) → i < length lists → get_or (starts_from n lists) i 0 ≡ n + length (flat_map list_bits (take i lists))
+unfolding starts_from
+starts-at n [] i lt = absurd (omega (arith, lt))
+starts-at n (xs ∷ lists) zero lt = omega arith
+starts-at n (xs ∷ lists) (suc i) lt = omega (arith, starts-at (n + length (list_bits xs)) lists i (omega (arith, lt)), length-append (list_bits xs) (flat_map list_bits (take i lists)))
+
+pub first_bits : (bytes places : List ℕ) (i : ℕ) → IsStored bytes places → i < length places → get_or places i 0 ≡ length (flat_map list_bits (take i (lists_of (bits_of bytes) places)))
+first_bits bytes places i is lt =
+    let lists = lists_of (bits_of bytes) places in
+    omega (arith, ap (λ (ps : List ℕ). get_or ps i 0) is.index.placed, starts-at 0 lists i (omega (arith, lt, length-lists_of (bits_of bytes) places)))
 
 -- ---- the bytes
 

@@ -1,7 +1,7 @@
 //! Lists of ascending numbers in one piece of memory.
 
 ghost use Rattle.std.specs.Prelude.{◌≡◌, ◌+◌, ◌*◌, ◌<◌, ◌≤◌, ◌++◌, ◌∷◌, [], ℕ, Bool, List, length};
-ghost use Rattle.std.specs.Prelude.{map, slice_index_or, IfOk, OnOk, Ok};
+ghost use Rattle.std.specs.Prelude.{map, slice_index_or, take, IfOk, OnOk, Ok};
 ghost use Rattle.std.specs.List.{flat_map, All};
 ghost use Rattle.gapcode.specs.Bits.{bits_from};
 ghost use Rattle.gapcode.specs.Lists.{beyond, AscendsFrom, AreAscending, IsSpelling, AreSpelled};
@@ -81,6 +81,17 @@ impl Lists {
         ensures last { result ≤ to }
     {
         middle_of(&self.places, from, to)
+    }
+
+    /// How many bits the first `count` lists take. It looks at one place, and at the last list if they are all.
+    pub fn bits_of_first(&self, count: usize) -> u128
+        requires { count ≤ length self.now }
+        ensures { result ≡ length (flat_map list_bits (take count self.now)) }
+    {
+        if count < self.places.len() {
+            return self.places.at(count);
+        }
+        bits_in(self)
     }
 
     /// The bytes that spell the lists. For a library's user: the program does not call it.
