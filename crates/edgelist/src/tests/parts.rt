@@ -27,7 +27,7 @@ pub(super) fn part_by_feeds(alloc: Global, graph: &Graph, parts: u16, p: u16) ->
     let Ok(bare) = bare_plan(graph, parts, Estimate::Raw, false) else {
         return None;
     };
-    if p >= bare.parts() {
+    if p >= bare.parts() || bare.vertices() != graph.vertices() {
         return None;
     }
     let feeds = graph.feeds(alloc, &bare).ok()?;
